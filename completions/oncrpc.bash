@@ -6,11 +6,11 @@ _oncrpc() {
     [[ $before != = ]] || before=${COMP_WORDS[COMP_CWORD - 2]}
     COMPREPLY=()
     if ((COMP_CWORD == 1)); then
-        mapfile -t COMPREPLY < <(compgen -W "check show encode types records info serve help --help --version" -- "$word")
+        mapfile -t COMPREPLY < <(compgen -W "check show encode types records info call ping serve help --help --version" -- "$word")
         return
     fi
     case ${COMP_WORDS[1]} in
-    help) mapfile -t COMPREPLY < <(compgen -W "check show encode types records info serve" -- "$word") ;;
+    help) mapfile -t COMPREPLY < <(compgen -W "check show encode types records info call ping serve" -- "$word") ;;
     check)
         case $before in
         --name) mapfile -t COMPREPLY < <(compgen -W "int unsigned hyper unsigned-hyper bool opaque string" -- "$word") ;;
@@ -61,7 +61,39 @@ _oncrpc() {
     info)
         case $before in
         --vers) mapfile -t COMPREPLY < <(compgen -W "2 3 4" -- "$word") ;;
-        *) mapfile -t COMPREPLY < <(compgen -W "--vers --udp --help" -- "$word") ;;
+        --timeout) : ;;
+        *) mapfile -t COMPREPLY < <(compgen -W "--vers --udp --timeout --help" -- "$word") ;;
+        esac
+        ((COMP_CWORD != 2)) || [[ $word == -* ]] || mapfile -t COMPREPLY < <(compgen -A hostname -- "$word")
+        ;;
+    call)
+        case $before in
+        --types) compopt -o filenames && mapfile -t COMPREPLY < <(compgen -f -- "$word") ;;
+        --dialect) mapfile -t COMPREPLY < <(compgen -W "rpcgen" -- "$word") ;;
+        --define) : ;;
+        --arguments) : ;;
+        --port) : ;;
+        --timeout) : ;;
+        --xid) : ;;
+        --uid) : ;;
+        --gid) : ;;
+        --gids) : ;;
+        --machine) : ;;
+        --depth) : ;;
+        --bytes) : ;;
+        *) mapfile -t COMPREPLY < <(compgen -W "--types --dialect --define --arguments --port --udp --timeout --xid --uid --gid --gids --machine --text --hex --indent --depth --bytes --help" -- "$word") ;;
+        esac
+        ((COMP_CWORD != 2)) || [[ $word == -* ]] || mapfile -t COMPREPLY < <(compgen -A hostname -- "$word")
+        ;;
+    ping)
+        case $before in
+        --types) compopt -o filenames && mapfile -t COMPREPLY < <(compgen -f -- "$word") ;;
+        --dialect) mapfile -t COMPREPLY < <(compgen -W "rpcgen" -- "$word") ;;
+        --define) : ;;
+        --port) : ;;
+        --timeout) : ;;
+        --count) : ;;
+        *) mapfile -t COMPREPLY < <(compgen -W "--types --dialect --define --port --udp --timeout --count --help" -- "$word") ;;
         esac
         ((COMP_CWORD != 2)) || [[ $word == -* ]] || mapfile -t COMPREPLY < <(compgen -A hostname -- "$word")
         ;;

@@ -7,7 +7,7 @@
  *
  * SHOWN BY TESTS, and by no contract: that ONCRPC_NO_MEMORY comes only where malloc or realloc refused, or as
  * oncrpc_normalise says of its input. That no memory is lost. Which error of a text is told, and at which line and
- * column; of JSON which of several reasons is told, and that its place is where the refused value or key begins. The
+ * column; of JSON that the place is where the refused value or key begins. The
  * stack that is needed, and that no call ends the process. The numbers and the texts of this file, and the sizes and the places of
  * fields. That the hashes of a registry depend on its seed is shown by neither: it is the code.
  *
@@ -149,7 +149,7 @@ enum {
 /* Why a JSON text spells no value of the kind within the limits: `why` of an outcome with ONCRPC_BAD_JSON. The place is
  * that of the value or the key that the reason is about, or another that is said here. A text that is no JSON is
  * ONCRPC_JSON_NOT_JSON or ONCRPC_JSON_TOO_DEEP, whatever else is wrong. Of several other reasons the first in the
- * order of the value's bytes is told; the members of an object are looked at before the values in it. */
+ * order of the text is told; the limits on a value come behind all of the text. */
 enum {
     ONCRPC_JSON_NOT_JSON = 1,       /* no JSON (RFC 8259), at the token that is refused; or no UTF-8, at the first byte
                                        that is none */

@@ -3,7 +3,7 @@ and clients exchanged is a value of what they declare."""
 import os
 import subprocess
 
-from refuse_use.recorded import RECORDED
+from refuse_use.recorded import RECORDED, SERVED
 
 ROOT = os.path.dirname(os.path.dirname(os.path.dirname(os.path.realpath(__file__))))
 # A text, and those of .ci/declarations that declare the same procedures, as their RFCs have them.
@@ -40,7 +40,7 @@ def share_rows(program):
         other = {it: (found.get(it), wanted[it]) for it in wanted if found.get(it) != wanted[it]}
         print(f"share/oncrpc/{name}.x beside {texts[0]}: {len(wanted)} lines, {other or 'all the same'}")
         yield len(wanted) > 5 and not other
-    for (name, version, procedure), arguments, results in RECORDED:
+    for (name, version, procedure), arguments, results in RECORDED + SERVED:
         for part, digits in (("1", arguments), ("result", results)):
             if digits:
                 at = f"{NUMBERS[name]}.{version}.{procedure}.{part}"

@@ -13,6 +13,8 @@ from .spelled import told_of_text
 # What is put into a text: structural characters, beginnings of numbers, names and strings, bytes that are no UTF-8.
 OTHERS = [b"", b'"', b"}", b"]", b",", b":", b"[", b"{", b"\\", b"0", b"1", b".", b"e", b"-", b" ", b"\n", b"\xff"]
 OTHERS += [b"\xc3", b"null", b"true", b"hex", b"case", b'"a":']
+# What is put in the place of a value, each of a form that many kinds do not have.
+VALUES = ["7", "-1", "1.5", "4294967296", "true", "null", "[]", "{}", '""', '"0"', '"A"', '{"hex":"6"}', '{"case":0}']
 
 
 class Changing:
@@ -54,6 +56,32 @@ class Changing:
         words[self.source.randrange(len(words))] = self.source.choice(words)
         return b" ".join(words)
 
+    def seldom(self):
+        return self.source.randrange(8) == 0
+
+    def varied(self, parts):
+        """The parts of an array or an object, now and then without one, or with one that stands twice."""
+        at = self.source.randrange(len(parts) + 1)
+        if not self.seldom():
+            return parts
+        return parts[:at] + parts[at : at + 1] * self.source.choice((0, 2)) + parts[at + 1 :]
+
+    def spoil(self, value):
+        """The JSON of a value whose objects are tuples of members, with faults in several places of it."""
+        if self.seldom():
+            return self.source.choice(VALUES)
+        if isinstance(value, list):
+            return f"[{','.join(map(self.spoil, self.varied(value)))}]"
+        if not isinstance(value, tuple):
+            return json.dumps(value)
+        members = self.varied([*value] + [("no such", None)] * self.seldom())
+        self.source.shuffle(members)
+        return f"{{{','.join(f'{json.dumps(name)}:{self.spoil(each)}' for name, each in members)}}}"
+
+    def spoilt(self, text):
+        """The text with several faults, and with members in another order."""
+        return self.spoil(json.loads(text, object_pairs_hook=tuple)).encode()
+
     def limits(self):
         """Limits on depth and on bytes, which one in ten has low."""
         if self.source.randrange(10):
@@ -62,14 +90,15 @@ class Changing:
 
 
 def random_read_cases(seed=1, count=2000):
-    """Random values: three texts that say each, and three that were changed."""
+    """Random values: three texts that say each, and four that were changed, one of them in several places."""
     change = Changing(random.Random(seed))
     for text, kinds, name, place, given in random_values(seed, count):
         value, _ = value_in(kinds, place, given)
         texts = texts_of(value)
         for written in (*texts.values(), change.spaced(texts[""])):
             yield reading(text, name, written), is_told("ok", given)
-        for changed in (change.cut(texts[""]), change.struck(texts[""]), change.replaced(texts[""])):
+        plain = texts[""]
+        for changed in (change.cut(plain), change.struck(plain), change.replaced(plain), change.spoilt(plain)):
             limits = change.limits()
             answer, streams = told_of_text(kinds, place, changed, *limits)
             yield reading(text, name, changed, *limits), is_told(answer, *streams)

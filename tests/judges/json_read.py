@@ -4,7 +4,7 @@ import itertools
 import json
 
 from rows.json_grammar import FORMS, INVALID, NUMBERS, OPEN, VALID, WELL_FORMED
-from rows.json_read import LIMITED, READ, REFUSED
+from rows.json_read import LIMITED, ORDERED, READ, REFUSED
 from rows.json_texts import INDENTED, JSON, TWICE
 from rows.shared import Case, LIST, WIDEST, octets, word
 
@@ -51,7 +51,7 @@ def worked_rows():
         yield reading(text, kind, given), is_told("ok", octets(digits))
     for text, kind, digits, given in JSON + INDENTED:
         yield reading(text, kind, given.encode()), is_told("ok", octets(digits))
-    for text, kind, marked, why in REFUSED + WELL_FORMED:
+    for text, kind, marked, why in REFUSED + ORDERED + WELL_FORMED:
         yield refused(text, kind, marked, why)
     for text, kind, marked in INVALID + OPEN:
         yield refused(text, kind, marked, "NotJson")
@@ -168,6 +168,9 @@ def large_read_cases():
 WIDE = b"struct wide { " + b"".join(b"int a%d; " % number for number in range(10000)) + b"};"
 LONG = b"enum many { " + b", ".join(b"N%d = %d" % (each, each) for each in range(9000)) + b" }; typedef many manys<>;"
 PICKED = b"union picked switch (int d) { case 1: int a; default: void; }; typedef picked all<>;"
+# Objects within one another, of many members each.
+CHAIN = b"struct chain { chain *next; " + b"".join(b"int a%d; " % number for number in range(9000)) + b"};"
+PAIRS = b"struct pair { int a; int b; }; typedef pair pairs<>;"
 
 
 def listed(item, count):
@@ -183,6 +186,9 @@ def hostile_read_cases():
     twice = b"{" + b",".join([b'"a":1'] * 100000) + b"}"
     escapes = b'"' + b"\\u0031" * (most // 6) + b'"'
     backwards = b",".join(b'"a%d":1' % number for number in reversed(range(10000)))
+    unfinished = b'{"next":' * 4000 + b"null" + b',"no such":1}' * 4000
+    picked = listed(b'{"a":1,"case":1}', most // 17)
+    pairs = listed(b'{"b":1,"a":1}', most // 14)
     rows = [
         (FORMS, "lists", b"[" * most, "TooDeep"),
         (FORMS, "lists", b'{"a":' * (most // 5), "TooDeep"),
@@ -201,8 +207,15 @@ def hostile_read_cases():
         (PICKED, "picked", b"{%s}" % distinct, "MissingMember"),
         (PICKED, "picked", b'{%s,"case":1}' % distinct, "UnknownMember"),
         (PICKED, "picked", twice, "MissingMember"),
-        (PICKED, "all", listed(b'{"a":1,"case":1}', most // 17), "ok"),
-        (FORMS, "member", twice, "MemberTwice"),
+        (PICKED, "all", picked, "ok"),
+        # The last value is wrong, and what stands before it is gone over once more.
+        (WIDE, "wide", b"{%strue}" % backwards[:-1], "WrongType"),
+        (PICKED, "all", picked[:-1] + b',{"a":true,"case":1}]', "WrongType"),
+        (PAIRS, "pairs", pairs[:-1] + b',{"b":1,"a":true}]', "WrongType"),
+        (CHAIN, "chain", unfinished, "UnknownMember"),
+        (FORMS, "lists", listed(chain, most // 8001)[:-1] + b",1]", "WrongType"),
+        (FORMS, "member", twice, "WrongType"),
+        (FORMS, "member", twice.replace(b"1", b'""'), "MemberTwice"),
         (LONG, "manys", listed(b'"N8999"', most // 8), "ok"),
         (LONG, "manys", listed(b"8999", most // 5), "ok"),
         (TWICE, "twice", b"[" + b" " * most + b"null]", "ok"),

@@ -1,11 +1,12 @@
 """Values that JSON spells, a second time: written anew from docs/FORMATS.md section 5 and RFC 4506, over the kinds that
-are told of a text. `spelled` gives the bytes of the value, or why there is none and where."""
+are told of a text. `spelled` gives the bytes of the value, or why there is none and where: of all faults that the text
+has, that with the least place."""
 import re
 import struct
 
 from rows.shared import WIDEST, word
 
-from .json_trees import Node, Refusal, tree_of
+from .json_trees import Refusal, tree_of
 
 DECIMAL = re.compile(rb"-?(0|[1-9][0-9]{0,19})")
 PAIRS = re.compile(rb"([0-9a-fA-F]{2})*")
@@ -67,25 +68,15 @@ def text_in(node):
     return content_in(node.content[0][2], node.at)
 
 
-def members_of(node, names):
-    """The values under these keys, of an object that has each of them once and no other."""
-    found = {}
-    for key, at, value in node.content:
-        if key not in names:
-            raise Refusal("UnknownMember", at)
-        if key in found:
-            raise Refusal("MemberTwice", at)
-        found[key] = value
-    if len(found) < len(names):
-        raise Refusal("MissingMember", node.at)
-    return found
-
-
 class Spelling:
-    """The bytes of a value, and of each node how many stand before it and how deep it lies."""
+    """The bytes of a value, and of each node how many stand before it and how deep it lies; and the faults of the text,
+    each with its place. Where there is a fault, the bytes are none of a value."""
 
     def __init__(self, kinds):
-        self.kinds, self.bytes, self.nodes = kinds, bytearray(), []
+        self.kinds, self.bytes, self.nodes, self.faults = kinds, bytearray(), [], []
+
+    def refuse(self, why, at):
+        self.faults.append((at, why))
 
     def tag(self, place, node):
         """A discriminant, in its kind."""
@@ -95,9 +86,14 @@ class Spelling:
         return member_in(more, node) if sort == "enum" else number_in(sort, node)
 
     def value(self, place, node, depth=1):
-        """Adds the value of the kind at the place."""
+        """Adds the value of the kind at the place, or the faults that it has."""
         self.nodes.append((len(self.bytes), depth))
-        sort, more = self.kinds[place]
+        try:
+            self.value_of(*self.kinds[place], place, node, depth)
+        except Refusal as refusal:
+            self.refuse(refusal.why, refusal.at)
+
+    def value_of(self, sort, more, place, node, depth):
         match sort:
             case "int" | "unsigned int" | "hyper" | "unsigned hyper":
                 self.bytes += struct.pack(FORMS[sort], number_in(sort, node))
@@ -108,7 +104,9 @@ class Spelling:
             case "fixed" | "array":
                 self.items(sort, *more, node, depth)
             case "struct":
-                self.fields(more, node, depth)
+                if node.sort != "object":
+                    raise Refusal("WrongType", node.at)
+                self.members(more, node, depth)
             case "union":
                 self.union(*more, node, depth)
             case "optional":
@@ -116,7 +114,7 @@ class Spelling:
             case "void":
                 if node.sort != "object":
                     raise Refusal("WrongType", node.at)
-                members_of(node, [])
+                self.members([], node, depth)
 
     def content(self, sort, size, node):
         content = text_in(node) if sort == "string" else content_in(node, node.at)
@@ -127,24 +125,38 @@ class Spelling:
         self.bytes += content + bytes(-len(content) % 4)
 
     def items(self, sort, item, size, node, depth):
+        """The items; those of an array that has too many or too few are values of their kind all the same."""
         if node.sort != "array":
             raise Refusal("WrongType", node.at)
         if len(node.content) > size or (sort == "fixed" and len(node.content) < size):
-            raise Refusal("WrongLength", node.at)
+            self.refuse("WrongLength", node.at)
         if sort == "array":
             self.bytes += word(len(node.content))
         for each in node.content:
             self.value(item, each, depth + 1)
 
-    def fields(self, fields, node, depth):
-        if node.sort != "object":
-            raise Refusal("WrongType", node.at)
-        found = members_of(node, [name.encode() for _, name in fields])
-        for kind, name in fields:
-            self.value(kind, found[name.encode()], depth + 1)
+    def members(self, parts, node, depth):
+        """The values under the names of these parts, in the order of the parts. A member is missing only where each
+        that is there has the name of a part, and stands once. What stands under an unknown key, or under one for the
+        second time, is of no kind."""
+        names = [name.encode() for _, name in parts]
+        found, refused = {}, len(self.faults)
+        for key, at, value in node.content:
+            if key not in names:
+                self.refuse("UnknownMember", at)
+            elif key in found:
+                self.refuse("MemberTwice", at)
+            else:
+                found[key] = value
+        if len(found) < len(names) and refused == len(self.faults):
+            self.refuse("MissingMember", node.at)
+        for (kind, _), name in zip(parts, names):
+            if kind is not None and name in found:
+                self.value(kind, found[name], depth + 1)
 
     def union(self, tag, arms, other, node, depth):
-        """The member under `case` is looked at first, and then which members there are."""
+        """A union has the members that the value under `case` tells, which is looked for first; where that is none of
+        its kind, or has no arm, they are not known."""
         if node.sort != "object":
             raise Refusal("WrongType", node.at)
         case = next((value for key, _, value in node.content if key == b"case"), None)
@@ -154,11 +166,12 @@ class Spelling:
         if number not in arms and other is None:
             raise Refusal("NoArm", case.at)
         kind, name = arms.get(number, other)
-        key = b"case_" if name == "case" else name.encode()
-        is_void = self.kinds[kind][0] == "void"
-        found = members_of(node, [b"case"] if is_void else [b"case", key])
         self.bytes += word(number & 0xFFFFFFFF)
-        self.value(kind, Node("object", [], node.at) if is_void else found[key], depth + 1)
+        if self.kinds[kind][0] == "void":
+            self.members([(None, "case")], node, depth)
+            self.nodes.append((len(self.bytes), depth + 1))
+        else:
+            self.members([(None, "case"), (kind, "case_" if name == "case" else name)], node, depth)
 
     def optional(self, item, node, depth):
         if node.sort == "null":
@@ -187,9 +200,13 @@ class Spelling:
 
 
 def spelled(kinds, place, text, depth=4096, most=WIDEST):
-    """The bytes of the value of the kind at the place that the text spells within the limits."""
+    """The bytes of the value of the kind at the place that the text spells within the limits. A limit is one of a
+    value, and told at the text's end: it comes behind all faults of the text."""
     spelling = Spelling(kinds)
     spelling.value(place, tree_of(text))
+    if spelling.faults:
+        at, why = min(spelling.faults)
+        raise Refusal(why, at)
     return spelling.limited(len(text), depth, most)
 
 

@@ -1,6 +1,7 @@
 """JSON texts that are read as values, worked by hand after docs/FORMATS.md section 5 (RFC 4506, RFC 8259). In what is
 refused `^` stands before the place."""
 from .codec import ALIKE, BOOL_CHOICE, COUNT_CHOICE, HYPERS, KIND_CHOICE, NEST, OPTIONAL, SIX, VOID_CHOICE
+from .json_grammar import FORMS
 from .json_texts import CASES, HEX, NO_ITEMS, SHARED_ARM, TWICE, UNSIGNED_CASES
 from .shared import FILE, LIST, MORE, PARTS, SILLYPROG, TWO_ENTRIES
 
@@ -190,27 +191,27 @@ REFUSED = [
     (MORE, "two", b"^[1]", "WrongLength"),
     (MORE, "two", b"^[1,2,3]", "WrongLength"),
     (MORE, "two", b"^null", "WrongType"),
-    # Structures: members before values, and values in the order of the fields.
+    # Structures: values and keys, in the order of the text.
     (FILE, "file", b'^[]', "WrongType"),
     (FILE, "file", b' ^{}', "MissingMember"),
     (FILE, "file", b'^{"filename":"a","type":{"case":0},"owner":"b"}', "MissingMember"),
-    (FILE, "file", b'{"filename":7,"type":{"case":0},"owner":"b",^"date":"00"}', "UnknownMember"),
-    (FILE, "file", b'{"filename":7,"type":{"case":0},"owner":"b","data":"",^"Owner":"c"}', "UnknownMember"),
-    (FILE, "file", b'{"filename":7,^"filename":"a","type":{"case":0},"owner":"b","date":"00"}', "MemberTwice"),
+    (FILE, "file", b'{"filename":"a","type":{"case":0},"owner":"b",^"date":"00"}', "UnknownMember"),
+    (FILE, "file", b'{"filename":"a","type":{"case":0},"owner":"b","data":"",^"Owner":"c"}', "UnknownMember"),
+    (FILE, "file", b'{"filename":"7",^"filename":"a","type":{"case":0},"owner":"b","date":"00"}', "MemberTwice"),
     (FILE, "file", b'{"filename":"a","type":{"case":0},"owner":"b","data":"",^"data":""}', "MemberTwice"),
     (FILE, "file", b'{"filename":"a",^"date":"00"}', "UnknownMember"),
     (FILE, "file", b'{"filename":"a",^"filename":"b"}', "MemberTwice"),
     (FILE, "file", b'{"filename":"a",^"date":"00","filename":"b","data":""}', "UnknownMember"),
-    (FILE, "file", b'{"data":"0","owner":7,"type":0,"filename":^[]}', "WrongType"),
-    (FILE, "file", b'{"data":"0","owner":7,"type":^0,"filename":""}', "WrongType"),
-    (FILE, "file", b'{"data":"0","owner":^7,\n"type":{"case":0},"filename":""}', "WrongType"),
+    (FILE, "file", b'{"data":"00","owner":"","type":{"case":0},"filename":^[]}', "WrongType"),
+    (FILE, "file", b'{"data":"00","owner":"","type":^0,"filename":""}', "WrongType"),
+    (FILE, "file", b'{"data":"00","owner":^7,\n"type":{"case":0},"filename":""}', "WrongType"),
     (FILE, "file", b'{"data":^"0","owner":"",\n"type":{"case":0},"filename":""}', "BadHex"),
     (FILE, "file", b'{"filename":"","type":{"case":0},"owner":^"012345678901234567890123456789012","data":""}',
      "WrongLength"),
     (HEX, "hexes", b'{"hex":"",^"case":""}', "UnknownMember"),
     (HEX, "hexes", b'{"hex":^{"hex":"ff","hex":"ff"},"case_":""}', "WrongType"),
     (NO_ITEMS, "void_lesses", b'[{"none":[]},\n ^{}]', "MissingMember"),
-    # Unions: the discriminant, then the members, then the arm.
+    # Unions: the discriminant, wherever it stands, and then the members.
     (CASES, "cases", b"^null", "WrongType"),
     (CASES, "cases", b"^{}", "MissingMember"),
     (CASES, "cases", b'^{"hex":"a"}', "MissingMember"),
@@ -268,6 +269,113 @@ REFUSED = [
     (TWICE, "thrice", b"[[^[5]]]", "WrongType"),
     (TWICE, "thrice", b"[^[]]", "WrongLength"),
 ]
+# More fields than are looked through one by one.
+NINE = b"struct nine { int a; int b; int c; int d; int e; int f; int g; int h; int ab; };"
+SEVEN_OF_NINE = b'"ab":1,"h":1,"g":1,"f":1,"e":1,"d":1,"c":1,'
+# The same of texts with several faults, of which the first in the order of the text is told: faults in the order of the
+# layout and against it, in one object, and in objects and arrays within others.
+ORDERED = [
+    # Two values of a structure.
+    (PARTS, "point", b'{"x":^true,"y":[]}', "WrongType"),
+    (PARTS, "point", b'{"y":^[],"x":true}', "WrongType"),
+    (PARTS, "point", b'{"x":^1.5,"y":"9223372036854775808"}', "NotWhole"),
+    (PARTS, "point", b'{"y":^"9223372036854775808","x":1.5}', "OutOfRange"),
+    (FILE, "file", b'{"filename":"a","type":{"case":^"LISP"},"owner":7,"data":"0"}', "UnknownName"),
+    (FILE, "file", b'{"data":^"0","owner":7,"type":{"case":"LISP"},"filename":"a"}', "BadHex"),
+    (FILE, "file", b'{"owner":^7,"data":"0","type":{"case":"LISP"},"filename":"a"}', "WrongType"),
+    (FILE, "file", b'{"data":"","type":^[],"owner":7,"filename":7}', "WrongType"),
+    # An unknown member before and behind a wrong value, and one that stands twice.
+    (PARTS, "point", b'{"x":^true,"z":1,"y":2}', "WrongType"),
+    (PARTS, "point", b'{^"z":1,"x":true,"y":2}', "UnknownMember"),
+    (PARTS, "point", b'{"y":2,^"z":1,"x":true}', "UnknownMember"),
+    (PARTS, "point", b'{"y":^null,"x":1,"z":1}', "WrongType"),
+    (PARTS, "point", b'{"y":2,^"z":{"x":true},"x":1}', "UnknownMember"),
+    (PARTS, "point", b'{"x":^true,"x":1,"y":2}', "WrongType"),
+    (PARTS, "point", b'{"y":2,"x":1,^"x":true}', "MemberTwice"),
+    (PARTS, "point", b'{"x":1,^"x":2,"y":[]}', "MemberTwice"),
+    (PARTS, "point", b'{"y":^[],"x":1,"x":2}', "WrongType"),
+    (PARTS, "point", b'{"x":1,^"x":2,"z":3}', "MemberTwice"),
+    (PARTS, "point", b'{"x":1,^"z":2,"x":3}', "UnknownMember"),
+    # One that is missing, which is told at the brace, and only where no member stands in its place.
+    (PARTS, "point", b'^{"x":true}', "MissingMember"),
+    (PARTS, "point", b'^{"y":true}', "MissingMember"),
+    (PARTS, "point", b'{"x":^true,"z":1}', "WrongType"),
+    (PARTS, "point", b'{^"z":1,"x":true}', "UnknownMember"),
+    (PARTS, "point", b'{"x":^true,"x":1}', "WrongType"),
+    (PARTS, "point", b'{"x":1,^"x":true}', "MemberTwice"),
+    # The same within another structure.
+    (FILE, "file", b'{"owner":"b","type":^{"creator":7},"filename":7,"data":""}', "MissingMember"),
+    (FILE, "file", b'{"filename":^7,"type":{},"owner":"b","data":""}', "WrongType"),
+    (FILE, "file", b'{"type":{"case":0,^"x":1},"filename":7,"owner":"","data":""}', "UnknownMember"),
+    (FILE, "file", b'{"type":{"case":0},"filename":^7,"owner":"","data":"","x":1}', "WrongType"),
+    (FILE, "file", b'{"type":{"creator":^7,"case":1},"filename":"","x":1}', "WrongType"),
+    (FILE, "file", b'{"type":{"creator":"","case":1},"filename":"",^"x":1}', "UnknownMember"),
+    (FILE, "file", b'^{"type":{"creator":7,"case":1},"filename":7}', "MissingMember"),
+    (PARTS, "around", b'{"one":{"p":{"x":^[],"y":1},"case":2},"at":7}', "WrongType"),
+    (PARTS, "around", b'{"at":^7,"one":{"case":7}}', "WrongType"),
+    (PARTS, "around", b'{"one":{"case":^7},"at":7}', "OutOfRange"),
+    (PARTS, "around", b'{"at":{"y":^{},"x":{}},"one":{"case":7}}', "WrongType"),
+    (LIST, "list", b'{"next":{"next":^7,"item":7},"item":7}', "WrongType"),
+    (LIST, "list", b'{"item":^7,"next":{"item":7,"next":7}}', "WrongType"),
+    (LIST, "list", b'{"next":{"item":^7,"next":0,"x":1},"x":1,"item":7}', "WrongType"),
+    (LIST, "list", b'{"next":{"next":null,"item":"a",^"x":1},"item":7,"y":1}', "UnknownMember"),
+    (LIST, "list", b'{"next":{"next":null,"item":"a"},^"x":{"next":7},"item":7}', "UnknownMember"),
+    (LIST, "list", b'{"next":{"next":null,"item":"a"},"item":^7,"item":7}', "WrongType"),
+    (LIST, "list", b'{"next":^{"next":7},"item":7}', "MissingMember"),
+    (LIST, "list", b'{"next":{"next":^{"item":7},"item":7},"item":7,"x":1}', "MissingMember"),
+    # Unions whose case stands before and behind the arm.
+    (FILE, "filetype", b'{"creator":^7,"case":"DATA","x":1}', "WrongType"),
+    (FILE, "filetype", b'{"case":"DATA","creator":^7,"x":1}', "WrongType"),
+    (FILE, "filetype", b'{"creator":^7,"case":1,"case":1}', "WrongType"),
+    (FILE, "filetype", b'{"creator":"",^"creator":7,"case":1}', "MemberTwice"),
+    (FILE, "filetype", b'{"case":1,^"case":true,"creator":7}', "MemberTwice"),
+    (FILE, "filetype", b'{"case":^true,"case":1,"creator":7}', "WrongType"),
+    (FILE, "filetype", b'{^"x":1,"creator":7,"case":"DATA"}', "UnknownMember"),
+    (FILE, "filetype", b'{"case":"DATA",^"x":1,"creator":7}', "UnknownMember"),
+    (FILE, "filetype", b'{"case":"DATA",^"x":1}', "UnknownMember"),
+    (FILE, "filetype", b'{^"creator":7,"case":0}', "UnknownMember"),
+    (FILE, "filetype", b'{"case":0,^"creator":7,"case":0}', "UnknownMember"),
+    (CASES, "cases", b'{"hex":^7,"case":5,"case_":1}', "WrongType"),
+    (CASES, "cases", b'{"hex":^{"hex":"0"},"case":5,"zzz":1}', "BadHex"),
+    (CASES, "cases", b'{"case_":^"x","case":-1,"case":-1}', "OutOfRange"),
+    (PARTS, "arm", b'{"p":{"y":^[],"x":true},"case":"RED"}', "WrongType"),
+    (PARTS, "arm", b'{"p":{"x":1,^"z":2,"y":[]},"case":2,"q":1}', "UnknownMember"),
+    (PARTS, "arm", b'{"p":{"x":1,"y":2},"case":2,^"q":1}', "UnknownMember"),
+    (PARTS, "arm", b'{"p":^{"x":true},"case":2}', "MissingMember"),
+    # What a union has is told by its case: where that is wrong, no other member is judged.
+    (FILE, "filetype", b'{"creator":7,"case":^"LISP"}', "UnknownName"),
+    (FILE, "filetype", b'{"x":1,"creator":7,"case":^3}', "OutOfRange"),
+    (FILE, "filetype", b'{"x":1,"case":^true,"y":1}', "WrongType"),
+    (FILE, "filetype", b'^{"x":1,"creator":7,"creator":7}', "MissingMember"),
+    (KIND_CHOICE, "choice", b'{"x":true,"case":^"DATA"}', "NoArm"),
+    (KIND_CHOICE, "choice", b'{"x":^true,"case":"TEXT","y":1}', "WrongType"),
+    # Arrays, and what is in them.
+    (MORE, "few", b"^[1,true,3]", "WrongLength"),
+    (MORE, "few", b"[^true,null]", "WrongType"),
+    (PARTS, "arm", b'{"seven":^[1,true],"case":5}', "WrongLength"),
+    (PARTS, "arm", b'{"seven":[1,2,^true,4,5,6,{}],"case":5}', "WrongType"),
+    (NO_ITEMS, "void_lesses", b'[{"none":[1,^true]},{"none":7}]', "WrongType"),
+    (NO_ITEMS, "void_lesses", b'[{"none":[]},{"none":^7},{"none":[true]},{}]', "WrongType"),
+    (FORMS, "members", b'[{"a":""},{^"b":1,"a":7},{}]', "UnknownMember"),
+    (FORMS, "members", b'[{"a":^7,"b":1},{}]', "WrongType"),
+    (FORMS, "members", b'[^{},{"a":7}]', "MissingMember"),
+    (FORMS, "lists", b"[[[],[^1]],2,[[3]]]", "WrongType"),
+    (TWICE, "thrice", b"^[[true],[true]]", "WrongLength"),
+    (TWICE, "fews", b"[1,^true,null]", "WrongType"),
+    # Long structures and long enumerations.
+    (NINE, "nine", b'{"ab":^true,"h":1,"g":1,"f":1,"e":1,"d":1,"c":1,"b":1,"a":true}', "WrongType"),
+    (NINE, "nine", b"{" + SEVEN_OF_NINE + b'^"":1,"a":true}', "UnknownMember"),
+    (NINE, "nine", b"{" + SEVEN_OF_NINE + b'"b":1,^"ab":true}', "MemberTwice"),
+    (NINE, "nine", b"{" + SEVEN_OF_NINE + b'"b":^true,"abc":1}', "WrongType"),
+    (NINE, "nine", b"{" + SEVEN_OF_NINE + b'"b":1,"a":^true}', "WrongType"),
+    (NINE, "nine", b"^{" + SEVEN_OF_NINE + b'"b":true}', "MissingMember"),
+    (MONTHS, "months", b'["JAN",^"XMA",13]', "UnknownName"),
+    (MONTHS, "day", b'{"day":^"x","case":"JAN","x":1}', "OutOfRange"),
+    (MONTHS, "day", b'{"case_":^7,"case":12,"case":13}', "WrongType"),
+    # A text that is no JSON is told before all else.
+    (MORE, "few", b"[null,^x]", "NotJson"),
+    (PARTS, "point", b'{"z":1,"x":true},^', "NotJson"),
+]
 # The same within limits on depth and on bytes: the first of both in the order of the value's bytes. The place is the
 # end of the text.
 LIMITED = [
@@ -294,4 +402,7 @@ LIMITED = [
     # A fault of the text comes before the limits.
     (1, 4, MORE, "few", b"[7,^x]", "NotJson"),
     (1, 4, MORE, "few", b"[7,^null]", "WrongType"),
+    (1, 4, LIST, "list", b'{"next":{"next":null,"item":"a"},"item":^7}', "WrongType"),
+    (2, 64, LIST, "list", b'{"next":^{"item":"a"},"item":""}', "MissingMember"),
+    (2, 4, LIST, "list", b'{"next":null,"item":"abcdefgh",^"x":1}', "UnknownMember"),
 ]

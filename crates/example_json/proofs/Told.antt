@@ -22,18 +22,23 @@ use Rattle.xdr_types.specs.Within.{Bounds}
 use Rattle.xdr_types.specs.declared.value.Value.{Value}
 use Rattle.xdr_json.specs.Spelled.{shows, under, spell, spells, is_number, is_decimal_of}
 use Rattle.xdr_json.specs.Text.{IsSpelling, json_text}
-use Rattle.xdr_json_reader.specs.Nodes.{Due, Shows, ShowsNone, Within, itself, part}
-use Rattle.xdr_json_reader.specs.Reasons.{NodeTells, IsWrongWithin, IsWrongText, IsBeyond, Tells, number_reason}
+use Rattle.xdr_json_reader.specs.Nodes.{Due, Shows, ShowsNone}
+use Rattle.xdr_json_reader.specs.Reasons.{NodeTells, IsWrongText, IsBeyond, Tells, number_reason, WantsNone, IsRight}
+use Rattle.xdr_json_reader.specs.Reasons.{IsFirst, behind, here, in_part, lacks, in_member, on_key}
 use Rattle.xdr_json_reader.specs.declared.fault.JsonFault.{JsonFault}
 use Rattle.xdr_json_reader.specs.declared.fault.JsonReason.{JsonReason}
 use Rattle.xdr_json_reader.specs.declared.fault.JsonReason.TheVariants as why
 
--- a value that stands for nothing has no parts
-alone : (kinds : List KindView) (root d : Due) → ShowsNone kinds (kind_at kinds root.0) root.1
-    → Within kinds root d → root ≡ d
-alone kinds root _ none itself = refl
-alone kinds root d none (part outer _ h w s c) =
-    absurd (none h (subst (λ (x : Due). Shows kinds (kind_at kinds x.0) x.1 h) (sym (alone kinds root outer none w)) s))
+-- a value that stands for nothing is the first fault itself, where it has no members by name
+alone : (kinds : List KindView) (root : Due) (w : JsonReason) → WantsNone kinds (kind_at kinds root.0) root.1
+    → ShowsNone kinds (kind_at kinds root.0) root.1 → (IsRight kinds root → ⊥) → IsFirst kinds root w
+    → NodeTells kinds (kind_at kinds root.0) root.1 w
+alone kinds root w plain none wrong (behind _ _ _ p f) = absurd (wrong p)
+alone kinds root w plain none wrong (here _ _ _ n h) = h.tells
+alone kinds root w plain none wrong (in_part _ _ h _ n s f) = absurd (none h s)
+alone kinds _ _ plain none wrong (lacks place ms _ ps wants m) = absurd (plain ps wants)
+alone kinds _ w plain none wrong (in_member place ms _ ps _ wants m f) = absurd (plain ps wants)
+alone kinds _ w plain none wrong (on_key place ms _ ps _ wants e a) = absurd (plain ps wants)
 
 some-is : {A : Type 0} (x y : A) → Some x ≡ Some y → x ≡ y
 some-is {A} x y e = ap from e
@@ -43,7 +48,8 @@ some-is {A} x y e = ap from e
     from _ = x
 
 module _ (kinds : List KindView) (place : ℕ) (limits : Bounds) (text : List ℕ) (j : Json) (r : JsonReason)
-    (utf8 : IsUtf8 text) (is : json_text text ≡ Some j) (none : ShowsNone kinds (kind_at kinds place) j)
+    (utf8 : IsUtf8 text) (is : json_text text ≡ Some j) (plain : WantsNone kinds (kind_at kinds place) j)
+    (none : ShowsNone kinds (kind_at kinds place) j)
     (only : (w : JsonReason) → NodeTells kinds (kind_at kinds place) j w → w ≡ r) where
   not_none : json_text text ≡ None → ⊥
   not_none e = true≢false (ap is_some (sym is ∙ e))
@@ -64,9 +70,8 @@ module _ (kinds : List KindView) (place : ℕ) (limits : Bounds) (text : List �
   wrong : (w : JsonReason) → IsWrongText kinds place text w → w ≡ r
   wrong w t =
       let tree : t.0 ≡ j = some-is t.0 j (sym t.1.is ∙ is) in
-      let at = subst (λ (x : Json). IsWrongWithin kinds (place, x) w) tree t.2 in
-      let here : (place, j) ≡ at.node = alone kinds (place, j) at.node none at.within in
-      only w (subst (λ (x : Due). NodeTells kinds (kind_at kinds x.0) x.1 w) (sym here) at.wrong.tells)
+      let at = subst (λ (x : Json). IsFirst kinds (place, x) w) tree t.2 in
+      only w (alone kinds (place, j) w plain none (λ r. not_spelled r.0 r.1) at)
 
   -- it is refused for the value's reason, an allocation failure aside
   pub told : (w : JsonReason) → Tells kinds place limits text w → (w ≡ r) ⊎ (w ≡ why.NoMemory)
@@ -101,13 +106,14 @@ module _ (kinds : List KindView) (limits : Bounds) (text bs : List ℕ) (j : Jso
 
   pub int_told : (w : JsonReason) → Tells kinds 0 limits text w → (w ≡ number_reason j) ⊎ (w ≡ why.NoMemory)
   int_told w t =
-      told (xdr.int ∷ []) 0 limits bs j (number_reason j) (IsUtf8-from_is_utf8 bs u) is no_head (λ v n. n) w
+      told (xdr.int ∷ []) 0 limits bs j (number_reason j) (IsUtf8-from_is_utf8 bs u) is (λ ps w. w) no_head (λ v n. n) w
       (subst (λ (ks : List KindView). Tells ks 0 limits bs w) e
       (subst (λ (x : List ℕ). Tells kinds 0 limits x w) h t))
 
   pub no_int : (t : Tree) → IsSpelling kinds 0 limits text t → ⊥
   no_int t s =
-      not_spelled (xdr.int ∷ []) 0 limits bs j (number_reason j) (IsUtf8-from_is_utf8 bs u) is no_head (λ v n. n) t
+      not_spelled (xdr.int ∷ []) 0 limits bs j (number_reason j) (IsUtf8-from_is_utf8 bs u) is (λ ps w. w) no_head
+      (λ v n. n) t
       (subst (λ (k : Json). spells (xdr.int ∷ []) 0 k t ≡ true)
       (some-is s.tree j (sym s.is ∙ ap json_text h ∙ is))
       (subst (λ (x : List KindView). spells x 0 s.tree t ≡ true) e s.spells))

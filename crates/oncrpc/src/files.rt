@@ -1,29 +1,72 @@
 //! Texts of declarations in files.
 use oncrpc_tasks::Opener;
-use std::fs;
+use std::alloc::AllocError;
 use std::rt::Files;
+use std::{env, fs, io};
 use xdr_io::{FromRead, ReadFault};
 
-/// Opens files by their paths. It tells nothing of them.
+/// The most bytes of the name of an installed text.
+const MOST_NAME: usize = 255;
+
+/// Opens files by their paths, and a text that is installed with the program by its name. It tells nothing of them.
 #[derive(Drop)]
 pub struct FileOpener<'a, R> {
     rt: &'a R,
+    // The folder of the installed texts, or an empty text.
+    folder: String,
+    // Where a path in it is put together. Its memory is there from the start, so that an open wants none.
+    path: String,
 }
 
-impl<'a, R: Files> FileOpener<'a, R> {
-    /// An opener of the system's files.
-    pub fn new(rt: &'a R) -> Self {
-        FileOpener { rt }
+impl<'a, R: Files + AllocGlobal> FileOpener<'a, R> {
+    /// An opener of the system's files. The error is an allocation failure.
+    pub fn new(rt: &'a R) -> Result<Self, AllocError> {
+        let folder = installed_folder(rt)?;
+        let most = folder.len().saturating_add(MOST_NAME + 3);
+        let path = String::with_capacity(rt.alloc(), most)?;
+        Ok(FileOpener { rt, folder, path })
+    }
+
+    // The text NAME.x in the folder of the installed texts, where there is one.
+    fn open_installed(&mut self, name: &str) -> Option<R::File> {
+        if self.folder.is_empty() || name.len() > MOST_NAME {
+            return None;
+        }
+        self.path.clear();
+        self.path.push_str(self.folder.as_str()).ok()?;
+        self.path.push_str("/").ok()?;
+        self.path.push_str(name).ok()?;
+        self.path.push_str(".x").ok()?;
+        fs::open(self.rt, self.path.as_str()).ok()
     }
 }
 
-impl<'a, R: Files> Opener for FileOpener<'a, R> {
+// The folder PREFIX/share/oncrpc, where the program is PREFIX/bin/oncrpc; an empty text where that is not known.
+fn installed_folder<R: Files + AllocGlobal>(rt: &R) -> Result<String, AllocError> {
+    let mut path = match env::current_exe(rt) {
+        Ok(path) => path,
+        Err(error) if error.kind() == io::ErrorKind::OutOfMemory => return Err(AllocError),
+        Err(_) => return Ok(String::new(rt.alloc())),
+    };
+    path.pop();
+    path.pop();
+    path.push("share/oncrpc")?;
+    Ok(path.into_string())
+}
+
+impl<'a, R: Files + AllocGlobal> Opener for FileOpener<'a, R> {
     type Text = FromRead<R::File>;
 
     fn open(&mut self, name: &str) -> Result<FromRead<R::File>, ReadFault> {
-        match fs::open(self.rt, name) {
-            Ok(file) => Ok(FromRead::new(file)),
-            Err(_) => Err(ReadFault),
+        if let Ok(file) = fs::open(self.rt, name) {
+            return Ok(FromRead::new(file));
+        }
+        if name.contains(['/', '.']) {
+            return Err(ReadFault);
+        }
+        match self.open_installed(name) {
+            Some(file) => Ok(FromRead::new(file)),
+            None => Err(ReadFault),
         }
     }
 }

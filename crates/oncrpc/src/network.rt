@@ -1,17 +1,20 @@
 //! The registry over TCP and UDP.
 ghost use Rattle.std.specs.Prelude.{◌≤◌};
 
+use crate::reaching::{addresses, connect, open_port};
+use crate::timed::{TimedPort, TimedReader, TimedWriter, Until};
+use crate::unreached::say_late;
 use oncrpc_answers::{Failure, report};
 use oncrpc_service::{
-    ClientPort, Listener, Loopback, LoopbackPort, datagrams_on, info_datagram, info_over,
-    report_socket, serve_on,
+    Listener, Loopback, LoopbackPort, datagrams_on, info_datagram, info_over, report_socket,
+    serve_on,
 };
 use oncrpc_words::{InfoTask, ServeTask};
 use rpc_directory::Directory;
 use std::collections::hash_map::RandomState;
 use std::io;
-use std::net::{SocketAddr, TcpStream, ToSocketAddrs};
-use xdr_io::{FromRead, IntoWrite, Sink};
+use std::net::TcpStream;
+use xdr_io::{MemorySink, Sink, write_whole};
 
 /// Asks a registry for its rows, over TCP or over UDP, and gives the exit status.
 pub fn info<O: Sink, F: Sink>(
@@ -22,26 +25,40 @@ pub fn info<O: Sink, F: Sink>(
 ) -> u8
     ensures { result ≤ 4 }
 {
-    if what.udp {
-        info_by_datagram(rt, what, output, faults)
+    let until = match Until::start(rt, what.timeout) {
+        Ok(until) => until,
+        Err(error) => return report_unconnected(&error, faults),
+    };
+    let mut said = [0u8; 256];
+    let mut line = MemorySink::new(&mut said, 256, None);
+    let status = if what.udp {
+        info_by_datagram(rt, what, until, output, &mut line)
     } else {
-        info_by_connection(rt, what, output, faults)
+        info_by_connection(rt, what, until, output, &mut line)
+    };
+    match what.timeout {
+        Some(seconds) if status == 3 && until.is_over() => say_late(rt.alloc(), seconds, faults),
+        _ => {
+            let _ = write_whole(faults, line.written());
+            status
+        }
     }
 }
 
 fn info_by_connection<O: Sink, F: Sink>(
     rt: &HostRuntime,
     what: &InfoTask,
+    until: Until<'_>,
     output: &mut O,
     faults: &mut F,
 ) -> u8
     ensures { result ≤ 4 }
 {
-    match connect(rt, what) {
+    match connect_first(rt, what, until) {
         Ok(stream) => info_over(
             rt.alloc(),
-            &mut FromRead::new(&stream),
-            &mut IntoWrite::new(&stream),
+            &mut TimedReader::new(until, &stream),
+            &mut TimedWriter::new(until, &stream),
             output,
             faults,
             what.vers,
@@ -53,12 +70,13 @@ fn info_by_connection<O: Sink, F: Sink>(
 fn info_by_datagram<O: Sink, F: Sink>(
     rt: &HostRuntime,
     what: &InfoTask,
+    until: Until<'_>,
     output: &mut O,
     faults: &mut F,
 ) -> u8
     ensures { result ≤ 4 }
 {
-    match connect_port(rt, what) {
+    match connect_port(rt, what, until) {
         Ok(mut port) => info_datagram(rt.alloc(), &mut port, output, faults, what.vers),
         Err(error) => report_unconnected(&error, faults),
     }
@@ -76,43 +94,17 @@ fn report_unconnected<F: Sink>(error: &io::Error, faults: &mut F) -> u8
 }
 
 // A connection to the first address of the host that takes one.
-fn connect(rt: &HostRuntime, what: &InfoTask) -> io::Result<TcpStream> {
-    let mut refused = io::Error::from(io::ErrorKind::NotFound);
-    for address in addresses(rt, what)? {
-        match TcpStream::connect(rt, address) {
-            Ok(stream) => return Ok(stream),
-            Err(error) => refused = error,
-        }
-    }
-    Err(refused)
+fn connect_first(rt: &HostRuntime, what: &InfoTask, until: Until<'_>) -> io::Result<TcpStream> {
+    connect(&addresses(rt, &what.host, what.port)?, until)
 }
 
 // A port for datagrams to the first address of the host to which there is a way.
-fn connect_port(rt: &HostRuntime, what: &InfoTask) -> io::Result<ClientPort> {
-    let mut refused = io::Error::from(io::ErrorKind::NotFound);
-    for address in addresses(rt, what)? {
-        match ClientPort::connect(rt, address) {
-            Ok(port) => return Ok(port),
-            Err(error) => refused = error,
-        }
-    }
-    Err(refused)
-}
-
-// The addresses of the host, those of IPv4 first, since a registry of this program listens at 127.0.0.1 alone.
-fn addresses(rt: &HostRuntime, what: &InfoTask) -> io::Result<Vec<SocketAddr>> {
-    let found = (what.host.as_str(), what.port).to_socket_addrs(rt)?;
-    let mut first = Vec::new(rt.alloc());
-    let mut others = Vec::new(rt.alloc());
-    for address in found {
-        if address.is_ipv4() {
-            first.push(address)?;
-        } else {
-            others.push(address)?;
-        }
-    }
-    first.append(&mut others)?;
-    Ok(first)
+fn connect_port<'a>(
+    rt: &HostRuntime,
+    what: &InfoTask,
+    until: Until<'a>,
+) -> io::Result<TimedPort<'a>> {
+    open_port(&addresses(rt, &what.host, what.port)?, until, true)
 }
 
 /// Serves a registry on 127.0.0.1, connections over TCP and then datagrams over UDP at the same port, and gives the

@@ -1,10 +1,12 @@
 //! The program over the system: words, files and standard streams.
 ghost use Rattle.std.specs.Prelude.{◌≤◌};
 
+use crate::calling::call;
 use crate::files::FileOpener;
 use crate::keeping::keep;
 use crate::network::{info, serve};
-use oncrpc_answers::{Task, TypesTask, ValueTask};
+use crate::pinging::ping;
+use oncrpc_answers::{Failure, Task, TypesTask, ValueTask, report};
 use oncrpc_encode::encode_over;
 use oncrpc_tasks::task_over;
 use oncrpc_types::types_over;
@@ -24,6 +26,8 @@ pub fn run(rt: &HostRuntime) -> u8
         Ok(Request::Encode(what)) => encode(rt, &what, &mut output, &mut faults),
         Ok(Request::Types(what)) => types(rt, &what, &mut output, &mut faults),
         Ok(Request::Info(what)) => info(rt, &what, &mut output, &mut faults),
+        Ok(Request::Call(what)) => call(rt, &what, &mut output, &mut faults),
+        Ok(Request::Ping(what)) => ping(rt, &what, &mut output, &mut faults),
         Ok(Request::Serve(what)) => serve(rt, &what, &mut output, &mut faults),
         Ok(Request::Keep(what)) => keep(rt, &what, &mut output, &mut faults),
         Err(fault) => print_words_fault(&fault, &mut output, &mut faults),
@@ -34,7 +38,9 @@ pub fn run(rt: &HostRuntime) -> u8
 fn offline<O: Sink, F: Sink>(rt: &HostRuntime, task: &Task, output: &mut O, faults: &mut F) -> u8
     ensures { result ≤ 4 }
 {
-    let mut opener = FileOpener::new(rt);
+    let Ok(mut opener) = FileOpener::new(rt) else {
+        return report(Failure::NoMemory, faults);
+    };
     let mut input = FromRead::new(rt.stdin());
     task_over(rt.alloc(), task, &mut opener, &mut input, output, faults)
 }
@@ -48,7 +54,9 @@ fn encode<O: Sink, F: Sink>(
 ) -> u8
     ensures { result ≤ 4 }
 {
-    let mut opener = FileOpener::new(rt);
+    let Ok(mut opener) = FileOpener::new(rt) else {
+        return report(Failure::NoMemory, faults);
+    };
     let mut input = FromRead::new(rt.stdin());
     encode_over(rt.alloc(), what, &mut opener, &mut input, output, faults)
 }
@@ -57,7 +65,9 @@ fn encode<O: Sink, F: Sink>(
 fn types<O: Sink, F: Sink>(rt: &HostRuntime, what: &TypesTask, output: &mut O, faults: &mut F) -> u8
     ensures { result ≤ 4 }
 {
-    let mut opener = FileOpener::new(rt);
+    let Ok(mut opener) = FileOpener::new(rt) else {
+        return report(Failure::NoMemory, faults);
+    };
     types_over(rt.alloc(), what, &mut opener, output, faults)
 }
 

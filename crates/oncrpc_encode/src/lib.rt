@@ -9,5 +9,5 @@ mod encoded;
 mod refusal;
 
 pub use encode::{encode_over, encode_value_over};
-pub use encoded::Encoded;
-pub use refusal::Refusal;
+pub use encoded::{Encoded, encoded_over};
+pub use refusal::{Refusal, line_of as refusal_line};

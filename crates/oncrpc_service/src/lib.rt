@@ -20,5 +20,6 @@ pub use datagrams::datagrams_on;
 pub use info::{info_datagram, info_over};
 pub use listener::{AcceptFault, Listener};
 pub use loopback::Loopback;
+pub use refusal::{fault_line, status_line};
 pub use serving::{report_socket, serve_on};
 pub use udp::{ClientPort, LoopbackPort};

@@ -1,5 +1,5 @@
 //! The lines that say why there are no rows.
-ghost use Rattle.std.specs.Prelude.{◌≡◌, ◌⊎◌, Some, IfOk, IfErr, string_bytes};
+ghost use Rattle.std.specs.Prelude.{◌≡◌, ◌⊎◌, None, Some, IfOk, IfErr, string_bytes};
 ghost use Rattle.rpc_message.specs.View.{status_view, why_view};
 ghost use Rattle.oncrpc_service.specs.Infos.{IsLine, denied_line, failure_of_fault, failure_of_record, fault_line};
 ghost use Rattle.oncrpc_service.specs.Infos.{record_line, reply_fault_name, status_line};
@@ -40,7 +40,8 @@ pub fn denied_line(alloc: Global, why: Why) -> Result<String, AllocError>
 /// none.
 pub fn fault_line(alloc: Global, fault: ClientFault) -> Result<String, Failure>
     ensures line { IfOk result (λ text. IsLine (fault_line fault) (string_bytes text)) }
-    ensures failed { IfErr result (λ f. (f ≡ Failure.NoMemory) ⊎ (failure_of_fault fault ≡ Some f)) }
+    ensures failed { IfErr result (λ f. ((f ≡ Failure.NoMemory) × (failure_of_fault fault ≡ None))
+        ⊎ (failure_of_fault fault ≡ Some f)) }
 {
     match fault {
         ClientFault::Record(fault) => record_line(alloc, fault),
@@ -59,7 +60,8 @@ pub fn fault_line(alloc: Global, fault: ClientFault) -> Result<String, Failure>
 // The line of an input without a first record.
 fn record_line(alloc: Global, fault: RecordFault) -> Result<String, Failure>
     ensures line { IfOk result (λ text. IsLine (record_line fault) (string_bytes text)) }
-    ensures failed { IfErr result (λ f. (f ≡ Failure.NoMemory) ⊎ (failure_of_record fault ≡ Some f)) }
+    ensures failed { IfErr result (λ f. ((f ≡ Failure.NoMemory) × (failure_of_record fault ≡ None))
+        ⊎ (failure_of_record fault ≡ Some f)) }
 {
     match fault {
         RecordFault::TooLong { at } => Ok(format!(in alloc; "refused TooLong at {at}\n")?),

@@ -1,4 +1,5 @@
 //! What help says behind the options: the output of each command, its statuses, and examples with what they print.
+pub use crate::after_calls::{AFTER_CALL, AFTER_PING};
 pub use crate::after_network::{AFTER_INFO, AFTER_SERVE};
 
 /// The statuses of each command, and the lines on standard error that go with them.

@@ -22,7 +22,8 @@ port', and then a line for each row. An answer without rows is the line
 
 Lines on standard error: 'socket fault' where the host is not found or no
 connection is accepted, 'read fault' where no answer could be read, also where
-nobody listens at a port of UDP.
+nobody listens at a port of UDP. With --timeout it is 'no answer within SECONDS
+seconds' where none came in time.
 
 Exit status:
   0  the rows are printed

@@ -1,4 +1,8 @@
 //! The commands and their options, as `clap` reads them.
+use super::tables::{
+    OF_CALL, OF_CHECK, OF_ENCODE, OF_INFO, OF_PING, OF_RECORDS, OF_SERVE, OF_SHOW, OF_TYPES, Taken,
+    Word,
+};
 use super::{after, help};
 use clap::{Arg, ArgAction, Command, value_parser};
 use std::alloc::{AllocError, Global};
@@ -20,121 +24,6 @@ pub const IDLE: u32 = 60;
 
 /// The names of dialects.
 const DIALECTS: [&str; 1] = ["rpcgen"];
-
-// What the value of a word has to be.
-enum Taken {
-    Text,
-    Dialect,
-    Port,
-    Number,
-    Version,
-    Connections,
-    Seconds,
-}
-
-// A word by its id, what help calls its value, what help says of it, and what the value has to be.
-enum Word {
-    // It stands at its place, without an option before it.
-    Placed(&'static str, &'static str, &'static str, Taken),
-    // An option that has to be there.
-    Required(&'static str, &'static str, &'static str, Taken),
-    // An option, and its value where it is not there, if it has one then.
-    Optional(&'static str, &'static str, &'static str, Taken, &'static [&'static str]),
-    // An option beside which another has to be there.
-    Beside(&'static str, &'static str, &'static str, Taken, &'static str),
-    // An option beside which another may not be there, and its value where it is not there.
-    Without(&'static str, &'static str, &'static str, Taken, &'static [&'static str], &'static str),
-    // An option that may come more than once, beside which others have to be there.
-    Repeated(&'static str, &'static str, &'static str, Taken, &'static [&'static str]),
-    // An option without a value.
-    Flag(&'static str, &'static str),
-    // The same, beside which another option has to be there.
-    FlagBeside(&'static str, &'static str, &'static str),
-    // The same, beside which another may not be there.
-    FlagWithout(&'static str, &'static str, &'static str),
-}
-
-const OF_CHECK: [Word; 7] = [
-    Word::Required("name", "NAME", help::NAME, Taken::Text),
-    Word::Repeated("types", "FILE", help::TYPES, Taken::Text, &[]),
-    Word::Beside("dialect", "DIALECT", help::DIALECT, Taken::Dialect, "types"),
-    Word::Repeated("define", "NAME", help::DEFINE, Taken::Text, &["dialect"]),
-    Word::Flag("hex", help::HEX),
-    Word::Optional("depth", "N", help::DEPTH, Taken::Number, &["4096"]),
-    Word::Optional("bytes", "N", help::BYTES, Taken::Number, &["16777216"]),
-];
-
-const OF_SHOW: [Word; 9] = [
-    Word::Required("name", "NAME", help::NAME, Taken::Text),
-    Word::Repeated("types", "FILE", help::TYPES, Taken::Text, &[]),
-    Word::Beside("dialect", "DIALECT", help::DIALECT, Taken::Dialect, "types"),
-    Word::Repeated("define", "NAME", help::DEFINE, Taken::Text, &["dialect"]),
-    Word::Flag("hex", help::HEX),
-    Word::Optional("depth", "N", help::DEPTH, Taken::Number, &["4096"]),
-    Word::Optional("bytes", "N", help::BYTES, Taken::Number, &["16777216"]),
-    Word::Flag("json", help::JSON),
-    Word::FlagBeside("indent", help::INDENT, "json"),
-];
-
-const OF_ENCODE: [Word; 7] = [
-    Word::Required("name", "NAME", help::NAME, Taken::Text),
-    Word::Repeated("types", "FILE", help::TYPES, Taken::Text, &[]),
-    Word::Beside("dialect", "DIALECT", help::DIALECT, Taken::Dialect, "types"),
-    Word::Repeated("define", "NAME", help::DEFINE, Taken::Text, &["dialect"]),
-    Word::Flag("hex", help::HEX_WRITTEN),
-    Word::Optional("depth", "N", help::DEPTH, Taken::Number, &["4096"]),
-    Word::Optional("bytes", "N", help::BYTES, Taken::Number, &["16777216"]),
-];
-
-const OF_TYPES: [Word; 4] = [
-    Word::Repeated("types", "FILE", help::TYPES, Taken::Text, &[]),
-    Word::Beside("dialect", "DIALECT", help::DIALECT, Taken::Dialect, "types"),
-    Word::Repeated("define", "NAME", help::DEFINE, Taken::Text, &["dialect"]),
-    Word::Flag("json", help::JSON_LIST),
-];
-
-const OF_RECORDS: [Word; 2] = [
-    Word::Optional("limit", "N", help::LIMIT, Taken::Number, &["16777216"]),
-    Word::Flag("hex", help::HEX),
-];
-
-const OF_INFO: [Word; 4] = [
-    Word::Placed("host", "HOST", help::HOST, Taken::Text),
-    Word::Placed("port", "PORT", help::REGISTRY_PORT, Taken::Port),
-    Word::Optional("vers", "N", help::VERS, Taken::Version, &["4"]),
-    Word::Flag("udp", help::UDP),
-];
-
-const OF_SERVE: [Word; 7] = [
-    Word::Required("port", "N", help::PORT, Taken::Port),
-    Word::Without(
-        "bind",
-        "ADDR",
-        help::BIND,
-        Taken::Text,
-        &["127.0.0.1"],
-        "count",
-    ),
-    Word::Without(
-        "connections",
-        "N",
-        help::CONNECTIONS,
-        Taken::Connections,
-        &["1024"],
-        "count",
-    ),
-    Word::Without(
-        "idle",
-        "SECONDS",
-        help::IDLE,
-        Taken::Seconds,
-        &["60"],
-        "count",
-    ),
-    Word::FlagWithout("verbose", help::VERBOSE, "count"),
-    Word::Optional("count", "C", help::COUNT, Taken::Number, &[]),
-    Word::Beside("datagrams", "D", help::DATAGRAMS, Taken::Number, "count"),
-];
 
 /// The program with its subcommands.
 pub fn command<'a>(alloc: Global) -> Result<Command<'a>, AllocError> {
@@ -163,6 +52,8 @@ fn commands<'a>(alloc: Global) -> Result<Vec<Command<'a>>, AllocError> {
     commands.push(types(alloc)?)?;
     commands.push(records(alloc)?)?;
     commands.push(info(alloc)?)?;
+    commands.push(call(alloc)?)?;
+    commands.push(ping(alloc)?)?;
     commands.push(serve(alloc)?)?;
     Ok(commands)
 }
@@ -201,6 +92,14 @@ fn records<'a>(alloc: Global) -> Result<Command<'a>, AllocError> {
 
 fn info<'a>(alloc: Global) -> Result<Command<'a>, AllocError> {
     part(alloc, "info", help::INFO, after::AFTER_INFO, &OF_INFO)
+}
+
+fn call<'a>(alloc: Global) -> Result<Command<'a>, AllocError> {
+    part(alloc, "call", help::CALL, after::AFTER_CALL, &OF_CALL)
+}
+
+fn ping<'a>(alloc: Global) -> Result<Command<'a>, AllocError> {
+    part(alloc, "ping", help::PING, after::AFTER_PING, &OF_PING)
 }
 
 fn serve<'a>(alloc: Global) -> Result<Command<'a>, AllocError> {
@@ -258,6 +157,9 @@ fn arg<'a>(alloc: Global, word: &Word) -> Result<Arg<'a>, AllocError> {
         }
         Word::Flag(id, help) => Ok(flag(alloc, *id, *help)),
         Word::FlagWithout(id, help, other) => flag(alloc, *id, *help).conflicts_with(*other),
+        Word::FlagWithoutEither(id, help, first, second) => flag(alloc, *id, *help)
+            .conflicts_with(*first)?
+            .conflicts_with(*second),
     }
 }
 

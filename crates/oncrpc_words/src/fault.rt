@@ -34,6 +34,8 @@ pub enum Misfit {
     Address,
     /// A name to be defined that no line `#ifdef` can ask for.
     Name,
+    /// Groups that are no numbers or more than 16, or the name of a machine that is too long.
+    Groups,
 }
 
 /// What is said of such a word.
@@ -41,6 +43,10 @@ fn line_of(misfit: Misfit) -> &'static str {
     match misfit {
         Misfit::Address => {
             "error: --bind wants an address of IPv4\n\nFor more information, try '--help'.\n"
+        }
+        Misfit::Groups => {
+            "error: --gids wants at most 16 numbers, and --machine at most 255 bytes\n
+For more information, try '--help'.\n"
         }
         Misfit::Name => {
             "error: --define wants a name: letters, digits and _, no digit first, and no value\n

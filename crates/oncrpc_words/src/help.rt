@@ -2,12 +2,12 @@
 
 /// The program in a line.
 pub const ABOUT: &str =
-    "Checks, shows and makes XDR values, marks ONC RPC records, asks and serves rpcbind";
+    "Checks, shows and makes XDR values, marks ONC RPC records, calls programs, serves rpcbind";
 
 /// The program in a paragraph.
 pub const LONG_ABOUT: &str =
-    "Checks, shows and makes XDR values (RFC 4506), marks ONC RPC records (RFC 5531), and asks and serves rpcbind, the
-registry of programs (RFC 1833).
+    "Checks, shows and makes XDR values (RFC 4506), marks ONC RPC records and calls programs (RFC 5531), and asks and
+serves rpcbind, the registry of programs (RFC 1833).
 
 Called without any word it does 'check --name opaque --hex'. 'oncrpc help COMMAND' has the words of a command, what it
 prints, and examples.";
@@ -35,6 +35,12 @@ pub const RECORDS: &str = "Writes each record of standard input as one fragment"
 
 /// What `info` does.
 pub const INFO: &str = "Asks the registry of a host for its rows and prints them";
+
+/// What `call` does.
+pub const CALL: &str = "Calls a procedure of a program and prints its result";
+
+/// What `ping` does.
+pub const PING: &str = "Calls procedure 0 of a program and prints how long it took";
 
 /// What `serve` does.
 pub const SERVE: &str = "Serves a registry to many clients at once, over TCP and UDP";
@@ -75,6 +81,59 @@ pub const DATAGRAMS: &str =
 /// The option for asking by a datagram.
 pub const UDP: &str = "Use UDP (one datagram) instead of TCP";
 
+/// The word for a procedure.
+pub const PROCEDURE: &str = "PROGRAM.VERSION.PROCEDURE, each a number or a name that FILE declares";
+
+/// The word for a program.
+pub const PROGRAM: &str = "PROGRAM or PROGRAM.VERSION, each a number or a name that FILE declares";
+
+/// The option for arguments.
+pub const ARGUMENTS: &str =
+    "The argument as JSON, or of several an array, in place of standard input";
+
+/// The option for the port of a program.
+pub const PROGRAM_PORT: &str =
+    "The port of the program, where the registry of the host is not to be asked for it";
+
+/// The option for datagrams.
+pub const UDP_ASKED: &str =
+    "Use UDP in place of TCP; the call is sent once more after each second without a reply";
+
+/// The option for the time that an answer may take.
+pub const TIMEOUT: &str = "How long an answer may take, 1 to 4294967295 seconds";
+
+/// The option for the time that an answer of a registry may take.
+pub const WAITED: &str =
+    "How long an answer may take, 1 to 4294967295 seconds; else without an end";
+
+/// The option for the number of a call.
+pub const XID: &str = "The number of the call, 0 to 4294967295; else one that the clock makes";
+
+/// The option for a uid.
+pub const UID: &str = "Call as this user, by AUTH_SYS; else by nobody";
+
+/// The option for a gid.
+pub const GID: &str = "And of this group";
+
+/// The option for further groups.
+pub const GIDS: &str = "And of these groups, at most 16, with a comma between two";
+
+/// The option for a machine.
+pub const MACHINE: &str = "And from a machine of this name, of at most 255 bytes";
+
+/// The option for lines.
+pub const TEXT: &str = "Print the lines of the result in place of JSON";
+
+/// The option for the bytes of a result.
+pub const HEX_RESULT: &str =
+    "Print a line of hexadecimal, of the bytes of the result, in place of JSON";
+
+/// The option for JSON by lines.
+pub const INDENT_RESULT: &str = "Print each item and each member of JSON on a line";
+
+/// The option for how many times a program is called.
+pub const PINGS: &str = "Call C times, a second apart, 0 to 4294967295";
+
 /// The option for a name.
 pub const NAME: &str = "The type of the value:
 int, unsigned, hyper, unsigned-hyper, bool, opaque or string;
@@ -83,7 +142,8 @@ P.V.N.K, the K-th argument, from 1, of procedure N in version V of program P of 
 or P.V.N.result, its result";
 
 /// The option for a file of declarations.
-pub const TYPES: &str = "A file of declarations in the XDR language, of at most 262144 bytes.
+pub const TYPES: &str =
+    "A file of declarations in the XDR language, of at most 262144 bytes, or mount, nfs, nlm, nsm or rpcbind.
 More than one are one text in their order, and what is refused then has its file";
 
 /// The option for a dialect.

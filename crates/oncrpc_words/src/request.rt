@@ -1,5 +1,5 @@
 //! What the program's words ask for.
-use oncrpc_answers::{Task, TypesTask, ValueTask};
+use oncrpc_answers::{Task, Texts, TypesTask, ValueTask};
 use std::net::Ipv4Addr;
 
 /// What the words ask for.
@@ -13,6 +13,10 @@ pub enum Request {
     Types(TypesTask),
     /// Print the rows of a registry.
     Info(InfoTask),
+    /// Call a procedure of a server, and print its result.
+    Call(CallTask),
+    /// Call procedure 0 of a program, and print how long it took.
+    Ping(PingTask),
     /// Serve a registry to so many connections and datagrams, one after another.
     Serve(ServeTask),
     /// Serve a registry to many clients at once, without an end.
@@ -30,6 +34,75 @@ pub struct InfoTask {
     pub vers: u32,
     /// Whether it is asked by a datagram over UDP, and not over TCP.
     pub udp: bool,
+    /// How many seconds its answer may take, 1 to 4294967295, or none where that has no end.
+    pub timeout: Option<u32>,
+}
+
+/// Where a program is, and how it is reached.
+#[derive(PartialEq, Eq, Drop)]
+pub struct Peer {
+    /// The name or address of its host.
+    pub host: String,
+    /// Its port, or none where the registry of the host is to be asked for it.
+    pub port: Option<u16>,
+    /// Whether it is called by datagrams over UDP, and not over TCP.
+    pub udp: bool,
+    /// How many seconds an answer may take, 1 to 4294967295.
+    pub timeout: u32,
+}
+
+/// Who calls, by AUTH_SYS (RFC 5531 appendix A).
+#[derive(PartialEq, Eq, Drop)]
+pub struct Caller {
+    pub uid: u32,
+    pub gid: u32,
+    pub gids: Vec<u32>,
+    pub machine: String,
+}
+
+/// How a result is printed.
+#[derive(Clone, Copy, PartialEq, Eq)]
+pub enum Printing {
+    Json,
+    IndentedJson,
+    Lines,
+    Hex,
+}
+
+/// A procedure of a server to be called.
+#[derive(PartialEq, Eq, Drop)]
+pub struct CallTask {
+    /// Where its program is.
+    pub peer: Peer,
+    /// Its name, `PROGRAM.VERSION.PROCEDURE`.
+    pub name: String,
+    /// The texts that declare it.
+    pub types: Texts,
+    /// The arguments as JSON, or none where they are read from standard input.
+    pub arguments: Option<String>,
+    /// The number of the call, or none where any will do.
+    pub xid: Option<u32>,
+    /// Who calls, or nobody.
+    pub caller: Option<Caller>,
+    /// How the result is printed.
+    pub printing: Printing,
+    /// The limit on depth.
+    pub depth: u32,
+    /// The limit on bytes.
+    pub bytes: u32,
+}
+
+/// A program whose procedure 0 is to be called.
+#[derive(PartialEq, Eq, Drop)]
+pub struct PingTask {
+    /// Where it is.
+    pub peer: Peer,
+    /// Its name, `PROGRAM.VERSION`.
+    pub name: String,
+    /// The texts that declare it.
+    pub types: Texts,
+    /// How many times it is called.
+    pub count: u32,
 }
 
 /// A registry to be served to so many connections and datagrams, one after another.

@@ -2,6 +2,7 @@
 ghost use Rattle.std.specs.Prelude.{◌≡◌, ◌⊎◌, IfOk, IfErr, [], string_bytes};
 ghost use Rattle.oncrpc_words.specs.Words.{IsFirst};
 
+use super::calls::{call_task, ping_task};
 use super::command::{BYTES, CONNECTIONS, DEPTH, IDLE, VERS, command};
 use super::fault::{Misfit, WordsFault, fault_of, misfit_fault, no_memory};
 use super::request::{InfoTask, KeepTask, Request, ServeTask};
@@ -57,6 +58,10 @@ fn request_of(alloc: Global, words: &[String]) -> Result<Result<Request, Misfit>
     match matches.subcommand() {
         Some(("serve", options)) => Ok(served(options).ok_or(Misfit::Address)),
         Some((_, options)) if !defines_names(options) => Ok(Err(Misfit::Name)),
+        Some(("call", options)) => match call_task(alloc, options)? {
+            Some(task) => Ok(Ok(Request::Call(task))),
+            None => Ok(Err(Misfit::Groups)),
+        },
         Some((name, options)) => Ok(Ok(asked(alloc, name, options)?)),
         None => Ok(Ok(first_request(alloc)?)),
     }
@@ -79,6 +84,7 @@ fn asked(alloc: Global, name: &str, options: &ArgMatches<'_>) -> Result<Request,
         "encode" => Ok(Request::Encode(value_task(alloc, options)?)),
         "types" => Ok(Request::Types(types_task(alloc, options)?)),
         "info" => Ok(Request::Info(info_task(alloc, options)?)),
+        "ping" => Ok(Request::Ping(ping_task(alloc, options)?)),
         _ => Ok(Request::Offline(Task::Records(records_task(options)))),
     }
 }
@@ -91,8 +97,8 @@ fn served(options: &ArgMatches<'_>) -> Option<Request> {
     }
 }
 
-// The number that an option has.
-fn number(options: &ArgMatches<'_>, id: &str, otherwise: u32) -> u32 {
+/// The number that an option has.
+pub fn number(options: &ArgMatches<'_>, id: &str, otherwise: u32) -> u32 {
     options.get_one::<u32>(id).unwrap_or(otherwise)
 }
 
@@ -117,7 +123,8 @@ fn dialect(alloc: Global, options: &ArgMatches<'_>) -> Result<Dialect, AllocErro
     }
 }
 
-fn texts(alloc: Global, options: &ArgMatches<'_>) -> Result<Texts, AllocError> {
+/// The texts of declarations that options name.
+pub fn texts(alloc: Global, options: &ArgMatches<'_>) -> Result<Texts, AllocError> {
     Ok(Texts {
         files: all(alloc, options, "types")?,
         dialect: dialect(alloc, options)?,
@@ -165,6 +172,7 @@ fn info_task(alloc: Global, options: &ArgMatches<'_>) -> Result<InfoTask, AllocE
         port: port(options),
         vers: number(options, "vers", VERS),
         udp: options.get_flag("udp"),
+        timeout: options.get_one::<u32>("timeout"),
     })
 }
 

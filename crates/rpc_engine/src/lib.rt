@@ -18,7 +18,7 @@ mod port;
 mod server;
 mod session;
 
-pub use client::exchange;
+pub use client::{exchange, reply_to};
 pub use datagram_client::exchange_datagram;
 pub use datagrams::serve_datagrams;
 pub use fault::{ClientFault, DatagramFault, ServeFault, Served};

@@ -14,3 +14,9 @@ pub mod Trees
 pub mod Lines
 pub mod Named
 pub mod Tables
+pub mod Firsts
+pub mod FirstKeys
+pub mod FirstMembers
+pub mod FirstFronts
+pub mod FirstTables
+pub mod FirstArms

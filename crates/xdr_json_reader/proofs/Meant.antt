@@ -40,7 +40,7 @@ arm kinds f z None j h = refl
 arm kinds f z (Some p) (json.object ms) h = refl
 arm kinds f z (Some p) _ h = absurd (false≢true h)
 
-as_many : (kinds : List KindView) (f : KindView) (h : Head) (j : Json) → Shows kinds f j h
+pub as_many : (kinds : List KindView) (f : KindView) (h : Head) (j : Json) → Shows kinds f j h
     → length (parts f h) ≡ length (under kinds f h j)
 as_many kinds xdr.int (value.int z) j s = refl
 as_many kinds xdr.int _ j s = absurd (false≢true s.legal)

@@ -239,7 +239,7 @@ pub view-Object : (v : Vec (Key × Node) Global) (at : ℕ)
     → json_in (node.Object v at) ≡ json.object (members_of (map (λ (m : Key × Node). (m.0, json_in m.1)) v.items))
 view-Object v at = search (rules, the_lemmas)
 
-all_members : (ms : List (Key × Node))
+pub all_members : (ms : List (Key × Node))
     → before_members (map pair_of ms) no_members ≡ members_of (map (λ (m : Key × Node). (m.0, json_in m.1)) ms)
 all_members [] = refl
 all_members (m ∷ ms) = ap (member m.0.name.now (json_in m.1)) (all_members ms)

@@ -23,7 +23,7 @@ use Rattle.xdr_json_reader.specs.Private.Pending.{Took, size, items_size, member
 use Rattle.xdr_json_reader.specs.Private.Pending.{is_optional, work}
 use Rattle.xdr_json.proofs.Once.{AreApart}
 
-most : (f : KindView) → is_optional f ≤ 1
+pub most : (f : KindView) → is_optional f ≤ 1
 most (xdr.maybe inner) = omega arith
 most _ = omega arith
 
@@ -35,7 +35,7 @@ some (json.string s) = omega arith
 some (json.array js) = omega arith
 some (json.object ms) = omega arith
 
-work-append : (kinds : List KindView) (ds bs : List Due) → work kinds (ds ++ bs) ≡ work kinds ds + work kinds bs
+pub work-append : (kinds : List KindView) (ds bs : List Due) → work kinds (ds ++ bs) ≡ work kinds ds + work kinds bs
 work-append kinds [] bs = omega arith
 work-append kinds (d ∷ ds) bs = let more = work-append kinds ds bs in omega (arith, more)
 

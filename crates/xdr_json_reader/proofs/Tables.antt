@@ -27,7 +27,7 @@ no_tables kinds ts e = λ place.
     subst (λ (es : List (ℕ × Table)). MatchOption (lookup (is_at (nat_cmp place)) es) (Unit {0})
     (λ m. IsTable (constants_in (kind_at kinds place)) m)) (sym e) tt
 
-same_place : (p q : ℕ) → is_eq (nat_cmp p q) ≡ true → p ≡ q
+pub same_place : (p q : ℕ) → is_eq (nat_cmp p q) ≡ true → p ≡ q
 same_place p q = by_case (nat_cmp p q) (ranked p q (nat_cmp p q) refl)
   where
     by_case : (o : Ordering) → MatchOrdering o (p < q) (p ≡ q) (q < p) → is_eq o ≡ true → p ≡ q

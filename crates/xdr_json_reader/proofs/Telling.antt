@@ -1,9 +1,10 @@
 -- What a refusal tells of a text.
-use Rattle.std.proofs.Common.{◌≡◌, ℕ, suc, ◌-◌, ◌<◌, ◌≤◌, ◌%◌, ◌⊎◌, inl, inr, List, [], ◌∷◌, length, Bool, true, false}
-use Rattle.std.proofs.Common.{refl, ap, sym, Option, Some}
+use Rattle.std.proofs.Common.{◌≡◌, ℕ, suc, ◌-◌, ◌<◌, ◌≤◌, ◌%◌, inl, inr, List, [], ◌∷◌, length, Bool, true, false}
+use Rattle.std.proofs.Common.{ap, sym, Option, Some, is_some, MatchOption}
 use Rattle.std.proofs.Common.{arith, ◌∙◌, subst, Result, Ok, Err, if◌then◌else◌, ◌&&◌, ◌==◌, None}
 use Rattle.std.specs.List.{list_any}
-use Rattle.std.specs.Str.{IsUtf8}
+use Rattle.std.specs.Option.{option_or}
+use Rattle.std.specs.Str.{IsUtf8, bytes_eq}
 use Rattle.hex.specs.Hex.{decode_of}
 use Rattle.hex.specs.declared.error.FromHexError.{FromHexError}
 use Rattle.json.specs.Json as json
@@ -24,7 +25,10 @@ use Rattle.xdr_json.specs.Text.{deepest, json_text}
 use Rattle.xdr_json_reader.specs.Reasons.{is_mark, numeral_reason, number_reason, name_reason, digits_reason}
 use Rattle.xdr_json_reader.specs.Reasons.{hex_reason, text_reason, list_reason, void_reason, tag_reason, form_reason}
 use Rattle.xdr_json_reader.specs.Reasons.{IsOfMembers, ChoiceTells, no_case, bad_case, no_arm, bad_arm, NodeTells}
-use Rattle.xdr_json_reader.specs.Reasons.{IsWrongWithin, IsBeyond, nested_text, Tells}
+use Rattle.xdr_json_reader.specs.Reasons.{IsBeyond, nested_text, Tells, IsFirst, IsRight, Fault, kind_under}
+use Rattle.xdr_json_reader.specs.Reasons.{key_reason, refused_key, front, values, behind, here, in_part, lacks}
+use Rattle.xdr_json_reader.specs.Reasons.{in_member, on_key}
+use Rattle.xdr_json_reader.specs.Nodes.{Due, inside}
 use Rattle.xdr_json_reader.specs.Private.Limited.{limit_reason}
 use Rattle.xdr_json_reader.specs.Private.Pending.{Means}
 use Rattle.xdr_json_reader.specs.Private.Steps.{NoneRead}
@@ -127,15 +131,49 @@ of_node kinds f j w h = named f j w h
     named : (f : KindView) (j : Json) (w : JsonReason) → w ≡ form_reason f j → IsOfNode w
     named f j w e = subst (λ (x : JsonReason). IsOfNode x) (sym e) (of_form f j)
 
+-- ---- the reason of a first fault
+
+abbrev MayBeOfNode : Option JsonReason → Type 0
+MayBeOfNode o = MatchOption o (Unit {0}) IsOfNode
+
+of_key : (ps : List Part) (before : List (List ℕ)) (key : List ℕ) → MayBeOfNode (key_reason ps before key)
+of_key ps before key =
+    by_case (is_some (kind_under ps key)) (list_any (λ (k : List ℕ). bytes_eq k key) before)
+  where
+    by_case : (a b : Bool)
+        → MayBeOfNode (if a then (if b then Some why.MemberTwice else None) else Some why.UnknownMember)
+    by_case true true = tt
+    by_case true false = tt
+    by_case false b = tt
+
+of_refused : (ps : List Part) (before : List (List ℕ)) (ms : Members) → MayBeOfNode (refused_key ps before ms)
+of_refused ps before json.no_members = tt
+of_refused ps before (json.member k j ms) =
+    by_case (key_reason ps before k) (of_key ps before k) (of_refused ps (k ∷ before) ms)
+  where
+    by_case : (o : Option JsonReason) → MayBeOfNode o → MayBeOfNode (refused_key ps (k ∷ before) ms)
+        → MayBeOfNode (option_or o (refused_key ps (k ∷ before) ms))
+    by_case None h more = more
+    by_case (Some w) h more = h
+
+of_first : (kinds : List KindView) (due : List Due) (w : JsonReason) → Fault kinds (IsRight kinds) due w → IsOfNode w
+of_first kinds _ w (behind d ds _ p f) = of_first kinds ds w f
+of_first kinds _ w (here d ds _ n h) = of_node kinds (kind_at kinds d.0) d.1 w h.tells
+of_first kinds _ w (in_part d ds h _ n s f) = of_first kinds (inside kinds d h) w f
+of_first kinds _ _ (lacks place ms ds ps wants m) = tt
+of_first kinds _ w (in_member place ms ds ps _ wants m f) = of_first kinds (values ps (front ps [] ms)) w f
+of_first kinds _ w (on_key place ms ds ps _ wants e a) =
+    subst (λ (o : Option JsonReason). MayBeOfNode o) e (of_refused ps [] ms)
+
 -- ---- what is told of the text
 
 module _ (kinds : List KindView) (place : ℕ) (limits : Bounds) (text : List ℕ) where
-  -- some value of the text is wrong
-  pub tells_wrong : (j : Json) (w : JsonReason) → IsUtf8 text → json_text text ≡ Some j
-      → IsWrongWithin kinds (place, j) w → Tells kinds place limits text w
-  tells_wrong j w u e h = by_case w (of_node kinds (kind_at kinds h.node.0) h.node.1 w h.wrong.tells) h
+  -- the first fault of the text
+  pub tells_first : (j : Json) (w : JsonReason) → IsUtf8 text → json_text text ≡ Some j → IsFirst kinds (place, j) w
+      → Tells kinds place limits text w
+  tells_first j w u e h = by_case w (of_first kinds ((place, j) ∷ []) w h) h
     where
-      by_case : (w : JsonReason) → IsOfNode w → IsWrongWithin kinds (place, j) w → Tells kinds place limits text w
+      by_case : (w : JsonReason) → IsOfNode w → IsFirst kinds (place, j) w → Tells kinds place limits text w
       by_case why.NoMemory n h = absurd n
       by_case why.NotJson n h = absurd n
       by_case why.TooDeep n h = absurd n

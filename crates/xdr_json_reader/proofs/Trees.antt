@@ -1,6 +1,6 @@
 -- All nodes of a tree, one after another.
 use Rattle.std.proofs.Common.{◌≡◌, ℕ, ◌<◌, List, [], ◌∷◌, ◌++◌, length, refl, ap, sym, ◌∙◌}
-use Rattle.std.proofs.Common.{subst, arith, inl, inr, Result, Ok, Err, OnOk, is_err, Bool, true, false}
+use Rattle.std.proofs.Common.{subst, arith, inl, inr, Result, Ok, Err, OnOk, is_err, Bool, false}
 use Rattle.std.proofs.lemmas.Bool.{true≢false}
 use Rattle.std.proofs.lemmas.List.Elements.{Contains-append_cases, Contains-append_right, Contains-push_cases}
 use Rattle.std.specs.Prelude.{Contains}

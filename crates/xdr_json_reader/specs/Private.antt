@@ -11,3 +11,5 @@ pub mod Chosen
 pub mod Fields
 pub mod Names
 pub mod Limited
+pub mod Wanted
+pub mod Walk

@@ -1,8 +1,10 @@
 -- What each reason of a refusal says of the text (own: docs/FORMATS.md section 5; RFC 8259; RFC 4506 section 4).
-use Rattle.std.specs.Prelude.{◌≡◌, ◌⊎◌, ℕ, ◌+◌, ◌<◌, ◌≤◌, ℤ, List, [], ◌∷◌, length, Bool, true, false, ◌||◌, ◌&&◌}
-use Rattle.std.specs.Prelude.{◌==◌, ⊤, if◌then◌else◌, Option, Some, None, option_and_then, Result, Ok, Err}
+use Rattle.std.specs.Prelude.{◌≡◌, ◌⊎◌, ℕ, ◌+◌, ◌<◌, ◌≤◌, ℤ, List, [], ◌∷◌, ◌++◌, length, Bool, true, false, ◌||◌}
+use Rattle.std.specs.Prelude.{◌&&◌, ◌==◌, ⊤, if◌then◌else◌, Option, Some, None, is_some, option_and_then}
+use Rattle.std.specs.Prelude.{Result, Ok, Err}
 use Rattle.std.specs.List.{list_any}
-use Rattle.std.specs.Str.{IsUtf8}
+use Rattle.std.specs.Option.{option_or}
+use Rattle.std.specs.Str.{IsUtf8, bytes_eq}
 use Rattle.hex.specs.Hex.{decode_of}
 use Rattle.hex.specs.declared.error.FromHexError.{FromHexError}
 use Rattle.json.specs.Json as json
@@ -10,14 +12,14 @@ use Rattle.json.specs.Json.{Json, Members, if_last}
 use Rattle.json.specs.Lex.{tokens}
 use Rattle.xdr_types.specs.Kinds as xdr
 use Rattle.xdr_types.specs.Kinds.{KindView, Part, Branch, kind_at}
-use Rattle.xdr_types.specs.Tree.{Tree, depth}
+use Rattle.xdr_types.specs.Tree.{Tree, Head, depth}
 use Rattle.xdr_types.specs.Fits.{is_tag_of, part_of}
 use Rattle.xdr_types.specs.Spelling.{bytes_of}
 use Rattle.xdr_types.specs.Within.{Bounds}
 use Rattle.xdr_json.specs.Mapping.{case_key, hex_key}
-use Rattle.xdr_json.specs.Spelled.{Spells, is_tag_json, count, has_key, at_key, has_each, arm_keys}
+use Rattle.xdr_json.specs.Spelled.{Spells, is_tag_json, is_group, count, has_key, at_key, has_each, arm_keys}
 use Rattle.xdr_json.specs.Text.{deepest, json_text}
-use Rattle.xdr_json_reader.specs.Nodes.{Due, ShowsNone, Within}
+use Rattle.xdr_json_reader.specs.Nodes.{Due, Shows, ShowsNone, inside, Within}
 use Rattle.xdr_json_reader.specs.declared.fault.JsonReason.{JsonReason}
 use Rattle.xdr_json_reader.specs.declared.fault.JsonReason.TheVariants as why
 
@@ -138,6 +140,113 @@ pub record IsWrongWithin (kinds : List KindView) (root : Due) (w : JsonReason) :
   pub within : Within kinds root node
   pub wrong : Wrong kinds (kind_at kinds node.0) node.1 w
 
+-- ---- the first fault, in the order of the text
+
+-- the kind of the value under a key; none where no part has the name
+abbrev pub kind_under : List Part → (key : List ℕ) → Option ℕ
+kind_under [] key = None
+kind_under (p ∷ ps) key = if bytes_eq p.name key then Some p.kind else kind_under ps key
+
+-- why a member is refused by its key, behind these keys: no part has the name, or the key stood before
+abbrev pub key_reason : List Part → (before : List (List ℕ)) → (key : List ℕ) → Option JsonReason
+key_reason ps before key =
+    if is_some (kind_under ps key) then
+    (if list_any (λ (k : List ℕ). bytes_eq k key) before then Some why.MemberTwice else None)
+    else
+    Some why.UnknownMember
+
+-- why the first member is refused that is refused by its key; none where no member is
+abbrev pub refused_key : List Part → (before : List (List ℕ)) → Members → Option JsonReason
+refused_key ps before json.no_members = None
+refused_key ps before (json.member k j ms) =
+    option_or (key_reason ps before k) (refused_key ps (k ∷ before) ms)
+
+-- the members before that one
+abbrev pub front : List Part → (before : List (List ℕ)) → Members → Members
+front ps before json.no_members = json.no_members
+front ps before (json.member k j ms) =
+    if is_some (key_reason ps before k) then json.no_members else json.member k j (front ps (k ∷ before) ms)
+
+-- a value for its kind, where there is one
+abbrev pub for_kind : Option ℕ → Json → List Due
+for_kind None j = []
+for_kind (Some place) j = (place, j) ∷ []
+
+-- the values of members, each for the kind of the part with its name
+abbrev pub values : List Part → Members → List Due
+values ps json.no_members = []
+values ps (json.member k j ms) = for_kind (kind_under ps k) j ++ values ps ms
+
+-- the members of a union: its discriminant, and the arm where that is not void (RFC 4506 section 4.15)
+abbrev pub arm_parts : List KindView → (tag : ℕ) → (arm : Part) → List Part
+arm_parts kinds tag p = record { name = case_key; kind = tag } ∷ arm_keys kinds (p ∷ [])
+
+-- the discriminant that the members tell has this arm (RFC 4506 section 4.15)
+pub record TellsArm (kinds : List KindView) (tag : ℕ) (arms : List Branch) (other : Option Part) (ms : Members)
+    (p : Part) : Type 0 where
+  pub named : has_key ms case_key ≡ true
+  pub number : ℤ
+  pub tells : TellsTag (kind_at kinds tag) ms number
+  pub is : part_of arms other number ≡ Some p
+
+-- the members that an object is to have, by their names: the fields of a structure (RFC 4506 section 4.14); those of a
+-- union once its discriminant tells an arm (section 4.15); none by name of another kind
+abbrev pub Wants : List KindView → KindView → Json → List Part → Type 0
+Wants kinds (xdr.structure fields) (json.object ms) ps = ps ≡ fields
+Wants kinds (xdr.choice tag arms other) (json.object ms) ps =
+    (p : Part) × TellsArm kinds tag arms other ms p × (ps ≡ arm_parts kinds tag p)
+Wants kinds f j ps = ⊥
+
+-- no members by name
+abbrev pub WantsNone : List KindView → KindView → Json → Type 0
+WantsNone kinds f j = (ps : List Part) → Wants kinds f j ps → ⊥
+
+-- a member is missing: there is not one for each part, and no other is refused that may stand in its place
+abbrev pub IsMissing : List Part → Members → Type 0
+IsMissing ps ms = (refused_key ps [] ms ≡ None) × (is_group ps (json.object ms) ≡ false)
+
+-- each of what is due passes
+abbrev pub AllPass : (Due → Type 0) → List Due → Type 0
+AllPass Passes [] = ⊤
+AllPass Passes (d ∷ ds) = Passes d × AllPass Passes ds
+
+-- a fault of what is due, in the order of the text; all that stands before it passes
+pub data Fault (kinds : List KindView) (Passes : Due → Type 0) : List Due → JsonReason → Type 0 where
+  -- of a later value
+  behind : (d : Due) (ds : List Due) (w : JsonReason) → Passes d → Fault kinds Passes ds w
+      → Fault kinds Passes (d ∷ ds) w
+  -- at the value itself, or at the discriminant of a union
+  here : (d : Due) (ds : List Due) (w : JsonReason) → WantsNone kinds (kind_at kinds d.0) d.1
+      → Wrong kinds (kind_at kinds d.0) d.1 w → Fault kinds Passes (d ∷ ds) w
+  -- in an item
+  in_part : (d : Due) (ds : List Due) (h : Head) (w : JsonReason) → WantsNone kinds (kind_at kinds d.0) d.1
+      → Shows kinds (kind_at kinds d.0) d.1 h → Fault kinds Passes (inside kinds d h) w
+      → Fault kinds Passes (d ∷ ds) w
+  -- at the brace of an object
+  lacks : (place : ℕ) (ms : Members) (ds : List Due) (ps : List Part)
+      → Wants kinds (kind_at kinds place) (json.object ms) ps → IsMissing ps ms
+      → Fault kinds Passes ((place, json.object ms) ∷ ds) why.MissingMember
+  -- in the value of a member
+  in_member : (place : ℕ) (ms : Members) (ds : List Due) (ps : List Part) (w : JsonReason)
+      → Wants kinds (kind_at kinds place) (json.object ms) ps → (IsMissing ps ms → ⊥)
+      → Fault kinds Passes (values ps (front ps [] ms)) w → Fault kinds Passes ((place, json.object ms) ∷ ds) w
+  -- at the key of a member
+  on_key : (place : ℕ) (ms : Members) (ds : List Due) (ps : List Part) (w : JsonReason)
+      → Wants kinds (kind_at kinds place) (json.object ms) ps → refused_key ps [] ms ≡ Some w
+      → AllPass Passes (values ps (front ps [] ms)) → Fault kinds Passes ((place, json.object ms) ∷ ds) w
+
+-- a JSON value spells a value of its kind
+abbrev pub IsRight : List KindView → Due → Type 0
+IsRight kinds d = (t : Tree) × Spells kinds d.0 d.1 t
+
+-- a fault of a JSON value for a kind
+abbrev pub IsFault : List KindView → Due → JsonReason → Type 0
+IsFault kinds root w = Fault kinds (λ d. ⊤) (root ∷ []) w
+
+-- the first one: each value that stands before it is right
+abbrev pub IsFirst : List KindView → Due → JsonReason → Type 0
+IsFirst kinds root w = Fault kinds (IsRight kinds) (root ∷ []) w
+
 -- ---- a text
 
 -- the JSON value that a text is, nested no deeper than the number (RFC 8259)
@@ -153,9 +262,9 @@ pub record IsJson (text : List ℕ) (tree : Json) : Type 0 where
   pub utf8 : IsUtf8 text
   pub is : json_text text ≡ Some tree
 
--- it is JSON, of which some value is wrong
+-- it is JSON, whose first fault this is
 abbrev pub IsWrongText : List KindView → (place : ℕ) → (text : List ℕ) → JsonReason → Type 0
-IsWrongText kinds place text w = (tree : Json) × IsJson text tree × IsWrongWithin kinds (place, tree) w
+IsWrongText kinds place text w = (tree : Json) × IsJson text tree × IsFirst kinds (place, tree) w
 
 -- it spells a value that passes a limit
 pub record IsBeyond (kinds : List KindView) (place : ℕ) (text : List ℕ) (Passes : Tree → Type 0) : Type 0 where

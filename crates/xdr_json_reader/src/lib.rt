@@ -11,10 +11,18 @@
 //!   of long enumerations. `reading_look` and `reading_member` look at the tree, `reading_bytes` writes units.
 //! - `reading`: the bytes as a value, within the limits.
 //!
+//! A text that spells no value is gone over once more, in its own order: `first_fault` finds the first fault in the
+//! tree. `first_members` goes over the members of an object, and `first_wanted` says what they are to be.
+//! `first_fields` has tables of long structures.
+//!
 //! `fault`: why a text is refused; `reading_place`: its place as line and column.
 #![tactic(auto)]
 
 mod fault;
+mod first_fault;
+mod first_fields;
+mod first_members;
+mod first_wanted;
 mod reading;
 mod reading_bytes;
 mod reading_content;

@@ -8,6 +8,7 @@ ghost use Rattle.xdr_json_reader.specs.Private.Limited.{limit_reason};
 ghost use Rattle.xdr_json_reader.specs.declared.fault.JsonReason.TheVariants.{NoMemory};
 
 use crate::fault::{JsonFault, JsonReason};
+use crate::first_fault::first_fault;
 use crate::reading_tree::bytes_in;
 use crate::tape_text::read_tree;
 use json::Scratch;
@@ -26,9 +27,9 @@ use xdr_types::{KindId, Limits, Schema, Value};
 /// the text spells no value of the kind within the limits, and `why` is right of it. `at` is at most the count of the
 /// text's bytes.
 ///
-/// Which of several reasons is told, and of which member, is tested and no clause says it. The same holds of a text
-/// that is no JSON: it is `TooDeep` only beyond 4096 open brackets. So it does of the place, which is where the refused
-/// value or key begins. For `TooDeep` and `TooLarge` it may be the text's end.
+/// Of several faults the first in the order of the text is told. Text that is no JSON comes before all others, and the
+/// limits on a value come behind them, at the text's end. That a text that is no JSON is `TooDeep` only beyond 4096
+/// open brackets is tested, and no clause says it. So is the place, which is where the refused value or key begins.
 ///
 /// No call recurses, whatever the text; the drop of what was read does, one level a call, at most 4096. Memory is of
 /// the size of the text, and nothing is reserved by a declared count.
@@ -49,7 +50,7 @@ pub fn read_json(
         ⊎ SpellsNone schema.now.kinds kind.place limits text.now) }
     // and the place lies in the text.
     ensures place { IfErr result (λ f. f.at ≤ length text.now) }
-    // The reason is right of the text.
+    // The reason is right of the text, and that of its first fault.
     ensures why { IfErr result (λ f. Tells schema.now.kinds kind.place limits text.now f.why) }
 {
     let _known = schema.len();
@@ -73,7 +74,8 @@ pub fn read_json(
     };
     let bytes = match bytes_in(alloc, schema, kind, &tree) {
         Ok(bytes) => bytes,
-        Err(fault) => {
+        Err(found) => {
+            let fault = first_fault(alloc, schema, kind, &tree, found);
             let at = fault.at.min(text.len());
             return Err(JsonFault { why: fault.why, at });
         }

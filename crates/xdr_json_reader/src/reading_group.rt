@@ -1,5 +1,5 @@
 //! Structures and void (RFC 4506 sections 4.14, 4.16).
-ghost use Rattle.std.specs.Prelude.{◌≡◌, ◌⊎◌, ◌++◌, ℕ, List, length, map, true, false, OnOk, IfOk, IfSome};
+ghost use Rattle.std.specs.Prelude.{◌≡◌, ◌++◌, ℕ, List, length, map, true, false, OnOk, IfOk};
 ghost use Rattle.std.specs.Bool.{MatchBool, OnTrue};
 ghost use Rattle.std.specs.BTreeMap.{get_by};
 ghost use Rattle.std.specs.Cmp.Lexicographic.{slice_cmp};
@@ -9,17 +9,16 @@ ghost use Rattle.xdr_types.specs.KindViews.{part_of_member};
 ghost use Rattle.xdr_types.specs.Faults.{part_twice};
 ghost use Rattle.xdr_json.specs.Spelled.{has_each};
 ghost use Rattle.xdr_json_reader.specs.Tape.{json_in, members_of};
-ghost use Rattle.xdr_json_reader.specs.Reasons.{IsOfMembers};
 ghost use Rattle.xdr_json_reader.specs.Private.Look.{pairs};
 ghost use Rattle.xdr_json_reader.specs.Nodes.{Due, each};
 ghost use Rattle.xdr_json_reader.specs.Private.Entries.{dues};
 ghost use Rattle.xdr_json_reader.specs.Private.Groups.{ReadAt};
 ghost use Rattle.xdr_json_reader.specs.Private.Fields.{keys, nodes, names, at_each, Finds};
-ghost use Rattle.xdr_json_reader.specs.declared.fault.JsonReason.TheVariants as reason;
 
 use crate::fault::{JsonFault, JsonReason};
 use crate::reading_entry::{Entry, push_node};
 use crate::reading_look::{Shape, look};
+use crate::reading_member::other_members;
 use crate::tape::{Key, Node};
 use std::alloc::Global;
 use std::collections::BTreeMap;
@@ -61,11 +60,11 @@ pub fn read_group<'v, 'a>(
     match look(node) {
         Shape::Object(members) => {
             if members.len() != fields.len() {
-                return Err(fault_in(alloc, fields, members, node.at()));
+                return Err(other_members(node.at()));
             }
             match push_fields(alloc, due, fields, members) {
                 Ok(true) => Ok(()),
-                Ok(false) => Err(fault_in(alloc, fields, members, node.at())),
+                Ok(false) => Err(other_members(node.at())),
                 Err(_) => Err(JsonFault {
                     why: JsonReason::NoMemory,
                     at: 0,
@@ -174,56 +173,4 @@ fn push_by_name<'v, 'a>(
         }
     }
     Ok(true)
-}
-
-// The first fault in the order of the text: a member that no field has, or that stands twice; else one is missing.
-fn fault_in(
-    alloc: Global,
-    fields: &Vec<Member>,
-    members: &Vec<(Key<'_>, Node<'_>)>,
-    at: usize,
-) -> JsonFault
-    ensures { (result.why ≡ reason.NoMemory) ⊎ IsOfMembers result.why }
-{
-    let missing = JsonFault {
-        why: JsonReason::MissingMember,
-        at,
-    };
-    match first_fault(alloc, fields, members) {
-        Ok(Some(fault)) => fault,
-        Ok(None) => missing,
-        Err(_) => JsonFault {
-            why: JsonReason::NoMemory,
-            at: 0,
-        },
-    }
-}
-
-fn first_fault(
-    alloc: Global,
-    fields: &Vec<Member>,
-    members: &Vec<(Key<'_>, Node<'_>)>,
-) -> Result<Option<JsonFault>, NoMemory>
-    ensures { IfOk result (λ o. IfSome o (λ f. IsOfMembers f.why)) }
-{
-    let mut stood: BTreeMap<&str, bool> = BTreeMap::new(alloc);
-    for field in fields {
-        stood.insert(field.name.as_str(), false)?;
-    }
-    for member in members {
-        let key = &member.0;
-        match stood.get(key.name) {
-            None => return Ok(Some(JsonFault {
-                why: JsonReason::UnknownMember,
-                at: key.at,
-            })),
-            Some(true) => return Ok(Some(JsonFault {
-                why: JsonReason::MemberTwice,
-                at: key.at,
-            })),
-            Some(false) => {}
-        }
-        stood.insert(key.name, true)?;
-    }
-    Ok(None)
 }

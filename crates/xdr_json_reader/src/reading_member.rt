@@ -3,7 +3,9 @@ ghost use Rattle.std.specs.Prelude.{◌≡◌, true, false, MatchOption};
 ghost use Rattle.xdr_json.specs.Spelled.{has_key, at_key};
 ghost use Rattle.xdr_json_reader.specs.Tape.{json_in, members_of};
 ghost use Rattle.xdr_json_reader.specs.Private.Look.{pairs};
+ghost use Rattle.xdr_json_reader.specs.Reasons.{IsOfMembers};
 
+use crate::fault::{JsonFault, JsonReason};
 use crate::tape::{Key, Node};
 
 /// The value of the first member with the key, looked for one by one.
@@ -18,4 +20,15 @@ pub fn member_at<'v, 'a>(members: &'v Vec<(Key<'a>, Node<'a>)>, key: &str) -> Op
         }
     }
     None
+}
+
+/// An object at a place has other members than its kind. Which of them is refused, the walk in the order of the text
+/// finds.
+pub fn other_members(at: usize) -> JsonFault
+    ensures { IsOfMembers result.why }
+{
+    JsonFault {
+        why: JsonReason::MissingMember,
+        at,
+    }
 }

@@ -7,11 +7,12 @@ ghost use Rattle.xdr_units.specs.Numbers.{num4};
 ghost use Rattle.xdr_types.specs.Faults.{is_void};
 ghost use Rattle.xdr_json.specs.Mapping.{arm_key};
 ghost use Rattle.xdr_json_reader.specs.Tape.{json_in, members_of};
-ghost use Rattle.xdr_json_reader.specs.Reasons.{IsOfMembers, Wrong};
+ghost use Rattle.xdr_json_reader.specs.Reasons.{Wrong};
 ghost use Rattle.xdr_json_reader.specs.Private.Look.{pairs};
 ghost use Rattle.xdr_json_reader.specs.Private.Entries.{dues};
 ghost use Rattle.xdr_json_reader.specs.Private.Groups.{ArmRead, ReadAt};
-ghost use Rattle.xdr_json_reader.specs.Private.Chosen.{IsChosen};
+ghost use Rattle.xdr_json_reader.specs.Private.Chosen.{IsChosen, IsTold};
+ghost use Rattle.xdr_json_reader.specs.Private.Wanted.{IsLoneWrong};
 ghost use Rattle.xdr_json_reader.specs.Private.Names.{MayBeTable, constants_in};
 ghost use Rattle.xdr_json_reader.specs.declared.fault.JsonReason.TheVariants.{NoMemory};
 
@@ -19,13 +20,13 @@ use crate::fault::{JsonFault, JsonReason};
 use crate::reading_bytes::put_tag;
 use crate::reading_entry::{Entry, Turn, push_node};
 use crate::reading_look::{Shape, look};
-use crate::reading_member::member_at;
+use crate::reading_member::{member_at, other_members};
 use crate::reading_tag::tag_at;
 use crate::tape::{Key, Node};
 use xdr_types::{Arm, Kind, KindId, Member, Schema, part_in};
 
-// Whether the kind at a place is void.
-fn is_nothing(schema: &Schema, id: KindId) -> bool
+/// Whether the kind at a place is void.
+pub fn is_nothing(schema: &Schema, id: KindId) -> bool
     ensures { result ≡ is_void schema.now.kinds id.place }
 {
     if !schema.has(id) {
@@ -37,36 +38,8 @@ fn is_nothing(schema: &Schema, id: KindId) -> bool
     }
 }
 
-// The first fault in the order of the text: a member with neither of two keys, or a key that stands twice; else one is
-// missing, of the object at a place.
-fn fault_among(members: &Vec<(Key<'_>, Node<'_>)>, key: &str, at: usize) -> JsonFault
-    ensures { IsOfMembers result.why }
-{
-    let mut has_case = false;
-    let mut has_arm = false;
-    for member in members {
-        let at = member.0.at;
-        let is_case = member.0.name == "case";
-        if !is_case && member.0.name != key {
-            let why = JsonReason::UnknownMember;
-            return JsonFault { why, at };
-        }
-        if is_case && has_case || !is_case && has_arm {
-            let why = JsonReason::MemberTwice;
-            return JsonFault { why, at };
-        }
-        if is_case {
-            has_case = true;
-        } else {
-            has_arm = true;
-        }
-    }
-    let why = JsonReason::MissingMember;
-    JsonFault { why, at }
-}
-
-// The key of an arm: its name, and `case_` for an arm that is itself called `case`.
-fn key_of(arm: &Member) -> &str
+/// The key of an arm: its name, and `case_` for an arm that is itself called `case`.
+pub fn key_of(arm: &Member) -> &str
     ensures { result.now ≡ arm_key (part_of_member arm.now).name }
 {
     let name = arm.name.as_str();
@@ -86,7 +59,7 @@ fn arm_node<'v, 'a>(
     let at = turn.next.node.at();
     if is_nothing(schema, arm.kind) {
         if members.len() != 1 {
-            return Err(fault_among(members, "case", at));
+            return Err(other_members(at));
         }
         return Ok(turn.empty);
     }
@@ -94,11 +67,11 @@ fn arm_node<'v, 'a>(
     match member_at(members, key) {
         Some(node) => {
             if members.len() != 2 {
-                return Err(fault_among(members, key, at));
+                return Err(other_members(at));
             }
             Ok(node)
         }
-        None => Err(fault_among(members, key, at)),
+        None => Err(other_members(at)),
     }
 }
 
@@ -119,6 +92,44 @@ pub struct Chosen<'v, 'a> {
     node: &'v Node<'a>,
 }
 
+/// The discriminant that the members tell, and its arm. Other members are not looked at.
+pub fn told_arm<'v, 'a, 's>(
+    schema: &'s Schema,
+    among: Union<'_>,
+    members: &'v Vec<(Key<'a>, Node<'a>)>,
+    turn: Turn<'v, 'a, '_, '_>,
+) -> Result<(i64, &'s Member), JsonFault>
+    requires kind { kind_at schema.now.kinds among.id.place
+        ≡ choice among.tag.place (map branch_of among.arms.now.items) (option_map part_of_member among.other.now) }
+    requires names { MayBeTable (constants_in (kind_at schema.now.kinds among.tag.place)) turn.names }
+    ensures { MatchResult result
+        (λ t. IsTold schema.now.kinds among.entry.tag.place (map branch_of among.entry.arms.now.items)
+        (option_map part_of_member among.entry.other.now) (members_of (pairs members.now.items)) t.0
+        (part_of_member t.1.now))
+        (λ f. IsLoneWrong schema.now.kinds (kind_at schema.now.kinds among.entry.id.place)
+        (object (members_of (pairs members.now.items))) f.why) }
+{
+    let _known = schema.len();
+    let Some(case) = member_at(members, "case") else {
+        return Err(JsonFault {
+            why: JsonReason::MissingMember,
+            at: turn.next.node.at(),
+        });
+    };
+    let at = case.at();
+    let number = match tag_at(schema, turn.names, among.tag, look(case)) {
+        Ok(number) => number,
+        Err(why) => return Err(JsonFault { why, at }),
+    };
+    match part_in(schema, among.id, number) {
+        Some(arm) => Ok((number, arm)),
+        None => Err(JsonFault {
+            why: JsonReason::NoArm,
+            at,
+        }),
+    }
+}
+
 // The discriminant that the members tell, and the arm that they have under it.
 fn chosen_arm<'v, 'a>(
     schema: &Schema,
@@ -137,22 +148,9 @@ fn chosen_arm<'v, 'a>(
         (object (members_of (pairs members.now.items))) f.why) }
 {
     let _known = schema.len();
-    let Some(case) = member_at(members, "case") else {
-        return Err(JsonFault {
-            why: JsonReason::MissingMember,
-            at: turn.next.node.at(),
-        });
-    };
-    let at = case.at();
-    let number = match tag_at(schema, turn.names, among.tag, look(case)) {
-        Ok(number) => number,
-        Err(why) => return Err(JsonFault { why, at }),
-    };
-    let Some(arm) = part_in(schema, among.id, number) else {
-        return Err(JsonFault {
-            why: JsonReason::NoArm,
-            at,
-        });
+    let (number, arm) = match told_arm(schema, among, members, turn) {
+        Ok(told) => told,
+        Err(fault) => return Err(fault),
     };
     match arm_node(schema, arm, members, turn) {
         Ok(node) => Ok(Chosen {

@@ -324,42 +324,52 @@ fn records_are_asked(rt: HostRuntime) -> Result<(), AllocError> {
     Ok(())
 }
 
-// Words, and the host, the port, the version and whether over UDP that they ask for.
-const INFOS: [(Words, &str, u16, u32, bool); 6] = [
-    (&["info", "localhost", "111"], "localhost", 111, 4, false),
+// What is asked of a registry: its host, the port, the version, whether over UDP, and for how many seconds.
+type Info = (&'static str, u16, u32, bool, Option<u32>);
+
+const INFOS: [(Words, Info); 8] = [
+    (
+        &["info", "localhost", "111"],
+        ("localhost", 111, 4, false, None),
+    ),
     (
         &["info", "127.0.0.1", "0", "--vers", "2"],
-        "127.0.0.1",
-        0,
-        2,
-        false,
+        ("127.0.0.1", 0, 2, false, None),
     ),
-    (&["info", "--vers=3", "", "65535"], "", 65535, 3, false),
-    (&["info", "::1", "+007", "--vers", "04"], "::1", 7, 4, false),
+    (
+        &["info", "--vers=3", "", "65535"],
+        ("", 65535, 3, false, None),
+    ),
+    (
+        &["info", "::1", "+007", "--vers", "04"],
+        ("::1", 7, 4, false, None),
+    ),
     (
         &["info", "localhost", "111", "--udp"],
-        "localhost",
-        111,
-        4,
-        true,
+        ("localhost", 111, 4, true, None),
     ),
-    (&["info", "--udp", "--vers=2", "a", "1"], "a", 1, 2, true),
+    (
+        &["info", "--udp", "--vers=2", "a", "1"],
+        ("a", 1, 2, true, None),
+    ),
+    (
+        &["info", "a", "1", "--timeout", "1"],
+        ("a", 1, 4, false, Some(1)),
+    ),
+    (
+        &["info", "--timeout=4294967295", "a", "1", "--udp"],
+        ("a", 1, 4, true, Some(4294967295)),
+    ),
 ];
 
-fn asks_info(
-    alloc: Global,
-    words: Words,
-    host: &str,
-    port: u16,
-    vers: u32,
-    udp: bool,
-) -> Result<bool, AllocError> {
-    let host = String::from_str(alloc, host)?;
+fn asks_info(alloc: Global, words: Words, info: Info) -> Result<bool, AllocError> {
+    let (host, port, vers, udp, timeout) = info;
     let asked = InfoTask {
-        host,
+        host: String::from_str(alloc, host)?,
         port,
         vers,
         udp,
+        timeout,
     };
     match read(alloc, words)? {
         Ok(Request::Info(task)) => Ok(task == asked),
@@ -369,11 +379,8 @@ fn asks_info(
 
 #[test]
 fn infos_are_asked(rt: HostRuntime) -> Result<(), AllocError> {
-    for (words, host, port, vers, udp) in &INFOS {
-        assert!(rt;
-            asks_info(rt.alloc(), words, host, *port, *vers, *udp)?,
-            "{words:?}"
-        );
+    for (words, info) in &INFOS {
+        assert!(rt; asks_info(rt.alloc(), words, *info)?, "{words:?}");
     }
     Ok(())
 }
@@ -494,7 +501,7 @@ fn registries_are_kept(rt: HostRuntime) -> Result<(), AllocError> {
 }
 
 // Words that give no task, and the status.
-const REFUSED: [(Words, u8); 59] = [
+const REFUSED: [(Words, u8); 83] = [
     (&["check"], 2),
     (&["nope"], 2),
     (&["show"], 2),
@@ -509,6 +516,41 @@ const REFUSED: [(Words, u8); 59] = [
     (&["info", "localhost", "111", "--vers", "5"], 2),
     (&["info", "localhost", "111", "--udp=1"], 2),
     (&["info", "localhost", "111", "--udp", "--udp"], 2),
+    (&["info", "localhost", "111", "--timeout", "0"], 2),
+    (&["info", "localhost", "111", "--timeout", "4294967296"], 2),
+    (&["call"], 2),
+    (&["call", "localhost"], 2),
+    (&["call", "localhost", "1.1.1", "2"], 2),
+    (&["call", "localhost", "1.1.1", "--port", "65536"], 2),
+    (&["call", "localhost", "1.1.1", "--timeout", "0"], 2),
+    (&["call", "localhost", "1.1.1", "--xid", "-1"], 2),
+    (&["call", "localhost", "1.1.1", "--uid", "1"], 2),
+    (&["call", "localhost", "1.1.1", "--gid", "1"], 2),
+    (&["call", "localhost", "1.1.1", "--gids", "1"], 2),
+    (&["call", "localhost", "1.1.1", "--machine", "a"], 2),
+    (&["call", "a", "1.1.1", "--uid=1", "--gid=1", "--gids="], 2),
+    (
+        &["call", "a", "1.1.1", "--uid=1", "--gid=1", "--gids=1,"],
+        2,
+    ),
+    (
+        &[
+            "call",
+            "a",
+            "1.1.1",
+            "--uid=1",
+            "--gid=1",
+            "--gids=1,2,3,4,5,6,7,8,9,10,11,12,13,14,15,16,17",
+        ],
+        2,
+    ),
+    (&["call", "localhost", "1.1.1", "--text", "--hex"], 2),
+    (&["call", "localhost", "1.1.1", "--text", "--indent"], 2),
+    (&["call", "localhost", "1.1.1", "--hex", "--indent"], 2),
+    (&["call", "localhost", "1.1.1", "--dialect", "rpcgen"], 2),
+    (&["ping", "localhost"], 2),
+    (&["ping", "localhost", "1", "--timeout", "0"], 2),
+    (&["ping", "localhost", "1", "--count", "-1"], 2),
     (&["serve"], 2),
     (&["serve", "--count", "1"], 2),
     (&["serve", "--port", "65536", "--count", "1"], 2),
@@ -584,6 +626,8 @@ const REFUSED: [(Words, u8); 59] = [
     (&["show", "--help"], 0),
     (&["help", "records"], 0),
     (&["info", "--help"], 0),
+    (&["call", "--help"], 0),
+    (&["help", "ping"], 0),
     (&["help", "serve"], 0),
     (&["--version"], 0),
     (&["-V"], 0),

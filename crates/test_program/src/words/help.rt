@@ -99,17 +99,45 @@ const OF_RECORDS: [&str; 11] = [
     "| oncrpc records --limit ",
 ];
 
-const OF_INFO: [&str; 10] = [
+const OF_INFO: [&str; 11] = [
     "<HOST>",
     "<PORT>",
     "2 to 4 [default: 4]",
     "--udp ",
+    "--timeout <SECONDS>",
     "program vers netid address owner",
     "program vers prot port",
     "\n  1  ",
     "\n  4  ",
     "WrongXid NUMBER",
     "\n    $ oncrpc info 127.0.0.1 111",
+];
+
+const OF_CALL: [&str; 16] = [
+    "<HOST>",
+    "<PROCEDURE>",
+    "--types <FILE>",
+    "--arguments <JSON>",
+    "--timeout <SECONDS>",
+    "[default: 10]",
+    "--gids <NUMBERS>",
+    "--text ",
+    "refused PROG_MISMATCH LOW HIGH",
+    "refused AUTH_ERROR NAME",
+    "result refused WHY at N",
+    "result ends at N, more follows",
+    "no answer within SECONDS seconds",
+    "\n  1  there is no result\n",
+    "\n  3  a socket, a read or a write failed, or no answer came in time\n",
+    "\n    $ oncrpc call 127.0.0.1 ",
+];
+
+const OF_PING: [&str; 5] = [
+    "<PROGRAM>",
+    "--count <C>",
+    "PROGRAM VERSION answered in N microseconds",
+    "PROGRAM LOW to HIGH answered in N",
+    "\n  0  each call was answered\n",
 ];
 
 const OF_SERVE: [&str; 20] = [
@@ -135,13 +163,15 @@ const OF_SERVE: [&str; 20] = [
     "\n    $ oncrpc serve --port 111",
 ];
 
-const OF_ALL: [&str; 15] = [
+const OF_ALL: [&str; 17] = [
     "check",
     "show",
     "encode",
     "types",
     "records",
     "info",
+    "call",
+    "ping",
     "serve",
     "check --name opaque --hex",
     "\n  0  done\n",
@@ -157,7 +187,7 @@ const OF_ALL: [&str; 15] = [
 const OF_VERSION: [&str; 1] = ["oncrpc 0.1.0\nproved with logic dac8208d650f15bf\n"];
 
 // Words, and what their answer says.
-const SAID: [(Words, &[&str]); 13] = [
+const SAID: [(Words, &[&str]); 15] = [
     (&["check", "--help"], &OF_A_VALUE),
     (&["help", "check"], &OF_OUTCOMES),
     (&["show", "--help"], &OF_A_VALUE),
@@ -167,6 +197,8 @@ const SAID: [(Words, &[&str]); 13] = [
     (&["help", "types"], &OF_TYPES),
     (&["records", "--help"], &OF_RECORDS),
     (&["info", "--help"], &OF_INFO),
+    (&["help", "call"], &OF_CALL),
+    (&["ping", "--help"], &OF_PING),
     (&["help", "serve"], &OF_SERVE),
     (&["--help"], &OF_ALL),
     (&["help"], &OF_ALL),

@@ -1,5 +1,5 @@
 -- The arm of a union that an object tells.
-use Rattle.std.specs.Prelude.{◌≡◌, ℕ, List, [], ◌∷◌, true, Option, Some}
+use Rattle.std.specs.Prelude.{◌≡◌, ℕ, ℤ, List, [], ◌∷◌, true, Option, Some}
 use Rattle.json.specs.Json as json
 use Rattle.json.specs.Json.{Members}
 use Rattle.xdr_types.specs.Kinds.{KindView, Part, Branch, kind_at}
@@ -21,3 +21,11 @@ pub record IsChosen (kinds : List KindView) (tag : ℕ) (arms : List Branch) (ot
   pub alone : has_arm_alone kinds part ms ≡ true
   pub kind : c.kind.place ≡ part.kind
   pub node : under_arm kinds (part ∷ []) (json.object ms) ≡ json_in c.node.now ∷ []
+
+-- the discriminant is told, and its arm
+pub record IsTold (kinds : List KindView) (tag : ℕ) (arms : List Branch) (other : Option Part) (ms : Members)
+    (number : ℤ) (part : Part) : Type 0 where
+  pub legal : is_tag_of (kind_at kinds tag) number ≡ true
+  pub is : part_of arms other number ≡ Some part
+  pub named : has_key ms case_key ≡ true
+  pub shown : is_tag_json (kind_at kinds tag) number (at_key ms case_key) ≡ true

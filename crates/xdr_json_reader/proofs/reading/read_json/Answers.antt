@@ -1,5 +1,6 @@
 use Rattle.std.proofs.Common.{◌≡◌, ℕ, suc, arith, List, inl, inr, None, take, sym, ap, ◌∙◌, subst}
 use Rattle.xdr_types.specs.Tree.{Tree}
+use Rattle.xdr_types.specs.Spelling.{bytes_of}
 use Rattle.xdr_types.specs.View.{tree}
 use Rattle.xdr_codec.specs.Refused.{HasNoneWithin, IsRefused}
 use Rattle.xdr_json.specs.Text.{json_text, IsSpelling}
@@ -7,8 +8,10 @@ use Rattle.xdr_stream.specs.Finish.{EndsWith}
 use Rattle.xdr_json_reader.specs.Tape.{json_in}
 use Rattle.xdr_json_reader.specs.Private.Limited.{limit_reason}
 use Rattle.xdr_json_reader.specs.Private.Steps.{NoneRead}
-use Rattle.xdr_json_reader.specs.Reasons.{nested_text}
-use Rattle.xdr_json_reader.proofs.Telling.{tells_wrong, tells_none, tells_limit}
+use Rattle.xdr_json_reader.specs.Reasons.{nested_text, Tells}
+use Rattle.xdr_json_reader.specs.declared.fault.JsonReason.TheVariants.{NoMemory}
+use Rattle.xdr_json_reader.proofs.Meant.{root_means}
+use Rattle.xdr_json_reader.proofs.Telling.{tells_first, tells_none, tells_limit}
 use Rattle.xdr_json_reader.proofs.Answered.{none_spelled, not_utf8, no_bytes, is_spelled, refused_bytes}
 use Rattle.xdr_json_reader.proofs.reading.read_json.Goals as goal
 use Rattle.xdr_json_reader.proofs.reading.read_json.Goals.{After-drop-scratch-in-Ok-decode-2}
@@ -33,7 +36,7 @@ pub returns-in-Err-bytes_in-clause-refused : goal.returns-in-Err-bytes_in-clause
 returns-in-Err-bytes_in-clause-refused c =
     let e = ap json_text (sym c.in-Ok.ensures.cases.0) ∙ c.in-Ok-read_tree.ensures.ok in
     elim c.in-Err-bytes_in.ensures [
-      | inl m ↦ inl m
+      | inl m ↦ inl (c.first_fault-fault.ensures.memory m)
       | inr n ↦
           inr (no_bytes c.args.schema.now.kinds c.args.kind.place c.args.limits c.args.text.now
           (json_in c.in-Ok-read_tree.tree) e n.0)
@@ -85,13 +88,21 @@ returns-in-Err-read_tree-clause-why c =
 pub returns-in-Err-bytes_in-clause-why : goal.returns-in-Err-bytes_in-clause-why
 returns-in-Err-bytes_in-clause-why c =
     let e = ap json_text (sym c.in-Ok.ensures.cases.0) ∙ c.in-Ok-read_tree.ensures.ok in
-    let tells = tells_wrong c.args.schema.now.kinds c.args.kind.place c.args.limits c.args.text.now
-    (json_in c.in-Ok-read_tree.tree) c.in-Err-bytes_in.fault.why c.in-Ok.ensures.cases.1 e in
+    let kinds = c.args.schema.now.kinds in
+    let place = c.args.kind.place in
+    let j = json_in c.in-Ok-read_tree.tree in
+    let w = c.first_fault-fault.result.why in
+    let no_memory : w ≡ NoMemory → Tells kinds place c.args.limits c.args.text.now w =
+    λ m. tells_none kinds place c.args.limits c.args.text.now w (inl m) in
     elim c.in-Err-bytes_in.ensures [
-      | inl m ↦
-          tells_none c.args.schema.now.kinds c.args.kind.place c.args.limits c.args.text.now
-          c.in-Err-bytes_in.fault.why (inl m)
-      | inr n ↦ tells n.1
+      | inl m ↦ no_memory (c.first_fault-fault.ensures.memory m)
+      | inr n ↦ elim c.first_fault-fault.ensures.first [
+        | inl m ↦ no_memory m
+        | inr f ↦ elim f [
+          | inl first ↦ tells_first kinds place c.args.limits c.args.text.now j w c.in-Ok.ensures.cases.1 e first
+          | inr right ↦ absurd (n.0 (bytes_of kinds place right.0) (root_means kinds place j right.0 right.1))
+        ]
+      ]
     ]
 
 pub returns-clause-why : goal.returns-clause-why

@@ -1,4 +1,4 @@
-use Rattle.std.proofs.Common.{inl, inr, map, subst, sym, ap, ◌∙◌, arith, refl}
+use Rattle.std.proofs.Common.{inr, map, subst, sym, ap, ◌∙◌, arith, refl}
 use Rattle.std.proofs.lemmas.List.{length-map}
 use Rattle.json.specs.Json.{Json, object}
 use Rattle.xdr_types.specs.Kinds.{structure}
@@ -20,14 +20,11 @@ returns-then-len c = λ kinds out.
     let is = sym (ap seen c.in-Object.is) ∙ c.look.ensures in
     let long = many c.in-Object.members.now.items in
     let all = length-map c.args.fields.now.items part_of_member in
-    elim c.fault_in.ensures [
-      | inl m ↦ inl m
-      | inr o ↦
-          inr (wrong_as kinds (structure (map part_of_member c.args.fields.now.items))
-          (structure (map part_of_member c.args.fields.now.items)) (object ms) (json_in c.args.node.now)
-          c.fault_in.result.why refl is
-          (bad_count ps ms c.fault_in.result.why (λ e. c.if-len.true (omega (arith, long, all, e))) o kinds))
-    ]
+    inr (wrong_as kinds (structure (map part_of_member c.args.fields.now.items))
+    (structure (map part_of_member c.args.fields.now.items)) (object ms) (json_in c.args.node.now)
+    c.other_members.result.why refl is
+    (bad_count ps ms c.other_members.result.why (λ e. c.if-len.true (omega (arith, long, all, e)))
+    c.other_members.ensures kinds))
 
 pub returns-in-Ok-false : goal.returns-in-Ok-false
 returns-in-Ok-false c = λ kinds out.
@@ -35,13 +32,10 @@ returns-in-Ok-false c = λ kinds out.
     let ms = members_of (pairs c.in-Object.members.now.items) in
     let is = sym (ap seen c.in-Object.is) ∙ c.look.ensures in
     let none = rw c.in-Ok-false.field-0-test at c.in-Ok-false.ensures in
-    elim c.fault_in-in-Ok-false.ensures [
-      | inl m ↦ inl m
-      | inr o ↦
-          inr (wrong_as kinds (structure (map part_of_member c.args.fields.now.items))
-          (structure (map part_of_member c.args.fields.now.items)) (object ms) (json_in c.args.node.now)
-          c.fault_in-in-Ok-false.result.why refl is (bad_each ps ms c.fault_in-in-Ok-false.result.why none o kinds))
-    ]
+    inr (wrong_as kinds (structure (map part_of_member c.args.fields.now.items))
+    (structure (map part_of_member c.args.fields.now.items)) (object ms) (json_in c.args.node.now)
+    c.other_members-in-Ok-false.result.why refl is
+    (bad_each ps ms c.other_members-in-Ok-false.result.why none c.other_members-in-Ok-false.ensures kinds))
 
 pub returns-in_default : goal.returns-in_default
 returns-in_default c = λ kinds out.

@@ -12,7 +12,7 @@ returns-then-len-ne1 c =
     let long = many ms in (
       void_other c.args.schema.now.kinds (part_of_member c.args.arm.now) (members_of (pairs ms))
           (sym c.is_nothing.ensures ∙ c.if-is_nothing.true) (λ e. omega (arith, long, e)),
-      c.fault_among.ensures,
+      c.other_members.ensures,
     )
 
 pub returns-then-is_nothing : goal.returns-then-is_nothing
@@ -28,7 +28,7 @@ returns-then-len-ne2 c =
     let long = many ms in (
       arm_extra c.args.schema.now.kinds (part_of_member c.args.arm.now) (members_of (pairs ms))
           (sym c.is_nothing.ensures ∙ c.if-is_nothing.false) (λ e. omega (arith, long, e)),
-      c.fault_among-then-len-ne2.ensures,
+      c.other_members-then-len-ne2.ensures,
     )
 
 pub returns-else-len-ne2 : goal.returns-else-len-ne2
@@ -43,5 +43,5 @@ pub returns-in-None : goal.returns-in-None
 returns-in-None c = (
   arm_missing c.args.schema.now.kinds (part_of_member c.args.arm.now) (members_of (pairs c.args.members.now.items))
       c.key_of-key.result.now (sym c.is_nothing.ensures ∙ c.if-is_nothing.false) c.key_of-key.ensures c.in-None.ensures,
-  c.fault_among-in-None.ensures,
+  c.other_members-in-None.ensures,
 )

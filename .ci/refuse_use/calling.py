@@ -1,0 +1,176 @@
+"""Rows of 'oncrpc call', 'oncrpc ping' and 'oncrpc info --timeout': what is sent, what is printed of each reply, and
+how long who hinders is waited for. Those of refusing are the same with each growth, read and write refused."""
+import os
+import re
+
+from refuse_use.answering import (
+    HOST,
+    Server,
+    deaf,
+    dripping,
+    endless,
+    flooding,
+    full,
+    garbage,
+    gone,
+    greedy,
+    late,
+    nobody,
+    other,
+    replying,
+    silent,
+    trickle,
+)
+from refuse_use.called import ASKED, DECLARED, NOBODY, ONE_PING, PINGED, UNASKED, XID
+from refuse_use.called import call, call_words, run, success, words
+from refuse_use.recorded import GENERATED, RECORDED, SERVED
+from refuse_use.refusing import placed_rows, refused_pings, refused_rows
+
+ROOT = os.path.dirname(os.path.dirname(os.path.dirname(os.path.realpath(__file__))))
+# The programs whose declarations are installed, and that of rpcgen's server.
+NUMBERS = {"rpcbind": 100000, "nfs": 100003, "mount": 100005, "nlm": 100021, "nsm": 100024, "filed": 536870914}
+NO_ANSWER = b"no answer within 2 seconds\n"
+# What a server does, by what, the status, what is said, and the seconds that it takes at least and at most.
+HINDERED = [
+    (endless, "", 3, NO_ANSWER, 1.9, 4),
+    (endless, "--udp", 3, NO_ANSWER, 1.9, 4),
+    (trickle, "", 3, NO_ANSWER, 1.9, 4),
+    (trickle, "--udp", 3, NO_ANSWER, 1.9, 4),
+    (dripping, "", 3, NO_ANSWER, 1.9, 4),
+    (silent, "", 3, NO_ANSWER, 1.9, 4),
+    (silent, "--udp", 3, NO_ANSWER, 1.9, 4),
+    (flooding, "--udp", 3, NO_ANSWER, 1.9, 4),
+    (greedy, "", 1, b"refused TooLong at 0\n", 0, 2),
+    (greedy, "--udp", 1, b"refused NotAReply\n", 0, 2),
+    (garbage, "", 1, b"refused TooLong at 0\n", 0, 2),
+    (garbage, "--udp", 1, b"refused NotAReply\n", 0, 2),
+    (gone, "", 1, b"refused Truncated at 0\n", 0, 2),
+    (gone, "--udp", 1, b"refused Truncated\n", 0, 2),
+    (other, "", 1, b"refused WrongXid %d\n" % (XID + 1), 0, 2),
+    (other, "--udp", 3, NO_ANSWER, 1.9, 4),
+]
+
+
+def asked_rows(program, folder):
+    """Each reply over TCP and over UDP: the call that is sent, and what is printed."""
+    for more, sent, reply, status, output, faults in ASKED:
+        for over in ([], ["--udp"]):
+            with Server(replying(reply)) as server:
+                got, _ = run(program, folder, call_words(server.port, [*more, *over]))
+            well = got == (status, output, faults) and server.calls == [sent]
+            told = (got, [it.hex() for it in server.calls])
+            yield f"{' '.join([*more, *over])}, {reply.hex()}", well, told
+
+
+def unasked_rows(program, folder):
+    """Nothing is sent where words, declarations or arguments are refused."""
+    for more, given, status, said in UNASKED:
+        with Server(replying(success())) as server:
+            got, _ = run(program, folder, call_words(server.port, more), given)
+        well = got[:2] == (status, b"") and got[2].startswith(said) and server.calls == []
+        yield f"{' '.join(more)}, {given}", well, (got, server.calls)
+
+
+def hindered_rows(program, folder):
+    """Who hinders is waited for as long as is asked for, and no longer."""
+    for answer, over, status, said, least, most in HINDERED:
+        with Server(answer) as server:
+            line = call_words(server.port, ["ASKED.FIRST.NIL", "--timeout", "2", *over.split()])
+            got, took = run(program, folder, line)
+        well = got == (status, b"", said) and least <= took <= most
+        yield f"a server that is {answer.__name__} {over}", well, (got, took)
+    for over in ("", "--udp"):
+        with Server(late) as server:
+            line = call_words(server.port, ["ASKED.FIRST.NIL", "--timeout", "9", *over.split()])
+            got, took = run(program, folder, line)
+        well = got == (0, b"{}\n", b"") and server.calls == [call(0)] * (3 if over else 1) and 0.9 <= took <= 6
+        yield f"a server that is late {over}", well, (got, took, server.calls)
+    yield from unheard_rows(program, folder)
+
+
+def unheard_rows(program, folder):
+    """Who takes no connection, or nothing of what is sent over it, is waited for no longer, either."""
+    with full() as port:
+        got, took = run(program, folder, call_words(port, ["ASKED.FIRST.NIL", "--timeout", "2"]))
+    yield "a server that takes no connection", got == (3, b"", NO_ANSWER) and 1.9 <= took <= 4, (got, took)
+    long = b'"' + b"a" * 8000000 + b'"'
+    with deaf() as port:
+        got, took = run(program, folder, call_words(port, ["ASKED.FIRST.ECHO", "--timeout", "4"]), long)
+        yield "a server that reads nothing", got == (3, b"", b"no answer within 4 seconds\n") and took <= 20, (got, took)
+    with Server(replying(success())) as server:
+        line = call_words(server.port, ["ASKED.FIRST.ECHO", "--udp"])
+        got, _ = run(program, folder, line, long[:70000] + b'"')
+    well = got == (3, b"", b"write fault\n") and server.calls == []
+    yield "arguments that are too long for a datagram", well, got
+    with nobody() as port:
+        for over in ("", "--udp"):
+            got, took = run(program, folder, call_words(port, ["ASKED.FIRST.NIL", *over.split()]))
+            yield f"a port that nobody has {over}", got == (3, b"", b"socket fault\n") and took < 3, (got, took)
+            got, took = run(program, folder, ["ping", HOST, "7.8", "--port", str(port), *over.split()])
+            yield f"ping of a port that nobody has {over}", got == (3, b"", b"socket fault\n") and took < 3, (got, took)
+
+
+def info_rows(program, folder):
+    """'info' waits as long as is asked for, too."""
+    got, took = run(program, folder, ["info", HOST, "1", "--timeout", "2"])
+    yield "info --timeout of a port that nobody has", got == (3, b"", b"socket fault\n"), (got, took)
+    for answer, over in ((silent, ""), (endless, ""), (trickle, ""), (endless, "--udp")):
+        with Server(answer) as server:
+            got, took = run(program, folder, ["info", HOST, str(server.port), "--timeout", "2", *over.split()])
+        well = got == (3, b"", NO_ANSWER) and 1.9 <= took <= 4
+        yield f"info --timeout {over} of a server that is {answer.__name__}", well, (got, took)
+
+
+def ping_rows(program, folder):
+    """The line of a ping, what refuses one, and who hinders it."""
+    for more, reply, status, output, faults in PINGED:
+        for over in ([], ["--udp"]):
+            with Server(replying(reply)) as server:
+                got, _ = run(program, folder, ["ping", HOST, *more, *over, "--port", str(server.port)])
+            well = got[0] == status and re.fullmatch(output, got[1]) and got[2] == faults
+            yield f"ping {' '.join([*more, *over])}", well, got
+    with Server(replying(success(xid=1))) as server:
+        got, took = run(program, folder, ["ping", HOST, "536870913.1", "--count", "3", "--port", str(server.port)])
+    yield "ping --count 3", len(ONE_PING.findall(got[1])) == 3 and got[0] == 0 and 1.9 <= took <= 5, (got, took)
+    for over in ([], ["--udp"]):
+        with Server(silent) as server:
+            line = ["ping", HOST, "536870913.1", "--timeout", "2", "--count", "2", "--port", str(server.port), *over]
+            got, took = run(program, folder, line)
+        well = got == (3, b"", NO_ANSWER) and 1.9 <= took <= 4
+        yield f"ping {' '.join(over)} of a server that is silent", well, (got, took)
+
+
+def recorded_rows(program, folder):
+    """What was recorded of real servers, called again by the installed declarations: the arguments as JSON spell what
+    was sent, and the results are a value to their last byte, which is printed."""
+    for (name, version, procedure), digits, results in RECORDED + GENERATED + SERVED:
+        types = ["--types", declarations_of(name)]
+        at = f"{NUMBERS[name]}.{version}.{procedure}"
+        arguments, given = bytes.fromhex(digits), []
+        if arguments:
+            shown = run(program, folder, ["show", "--json", "--hex", "--name", f"{at}.1", *types], digits.encode())[0]
+            given = ["--arguments", shown[1].decode().rstrip("\n")]
+        sent = words(XID, 0, 2, NUMBERS[name], version, procedure) + NOBODY + NOBODY + arguments
+        with Server(replying(success(bytes.fromhex(results)))) as server:
+            got, _ = run(program, folder, call_words(server.port, [at, "--hex", *given, *types]))
+        well = got == (0, results.encode() + b"\n", b"") and server.calls == [sent]
+        yield f"{at} as recorded", well, (got, [it.hex() for it in server.calls])
+
+
+def declarations_of(name):
+    """The text that declares a recorded program."""
+    return f"{ROOT}/.ci/clients_use/filed.x" if name == "filed" else f"{ROOT}/share/oncrpc/{name}.x"
+
+
+def call_rows(program, folder, heap):
+    """The rows, each whether it is as it should be."""
+    with open(f"{folder}/asked.x", "wb") as it:
+        it.write(DECLARED)
+    for rows in (asked_rows, unasked_rows, hindered_rows, info_rows, ping_rows, recorded_rows):
+        for name, is_well, told in rows(program, folder):
+            print(f"oncrpc call, {name}: {'as it should' if is_well else told}", flush=True)
+            yield bool(is_well)
+    for rows in (refused_rows, refused_pings, placed_rows) if heap else ():
+        for name, is_well, told in rows(program, folder, heap):
+            print(f"oncrpc call, {name}: {'as it should' if is_well else told}", flush=True)
+            yield bool(is_well)

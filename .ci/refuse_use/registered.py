@@ -1,0 +1,147 @@
+"""Rows of 'oncrpc call' and 'oncrpc ping' without a port: the registry of the host, at port 111, is asked for it by
+GETADDR of version 4, then of version 3, then by GETPORT of version 2 (RFC 1833 sections 2.1, 2.2.1 and 3.1).
+
+They run in a network of their own, since another registry may listen here, and are skipped where none can be made.
+"""
+import os
+import re
+import shutil
+import struct
+import subprocess
+import sys
+import tempfile
+
+sys.dont_write_bytecode = True
+sys.path.insert(0, os.path.dirname(os.path.dirname(os.path.realpath(__file__))))
+
+from refuse_use.answering import Server, endless, garbage, silent
+from refuse_use.called import DECLARED, HOST, PROGRAM, marked, opaque, run, success, words
+from refuse_use.refusing import first_growth, swept
+
+REGISTRY = 100000
+# What the registry's versions 4, 3 and 2 answer to the question, None for PROG_MISMATCH; which of them are asked, and
+# whether the program is called then. The program is at port 111, too, which is 0 times 256 and 111.
+AT = opaque(b"127.0.0.1.0.111")
+NO_ROW = b"refused: the registry has no such program\n"
+ANSWERS = [
+    ((AT, None, None), [4], 0, b"{}\n", b""),
+    ((None, AT, None), [4, 3], 0, b"{}\n", b""),
+    ((None, None, words(111)), [4, 3, 2], 0, b"{}\n", b""),
+    ((opaque(b""), opaque(b""), words(111)), [4, 3, 2], 0, b"{}\n", b""),
+    ((opaque(b"127.0.0.1"), opaque(b"a.0.111"), words(111)), [4, 3, 2], 0, b"{}\n", b""),
+    ((opaque(b"127.0.0.1.0.0"), b"\0\0\0\xff", words(111)), [4, 3, 2], 0, b"{}\n", b""),
+    ((opaque(b""), opaque(b""), words(0)), [4, 3, 2], 1, b"", NO_ROW),
+    ((opaque(b""), opaque(b""), words(65536 + 111)), [4, 3, 2], 1, b"", NO_ROW),
+    ((None, None, None), [4, 3, 2], 1, b"", NO_ROW),
+    ((b"", b"", b""), [4, 3, 2], 1, b"", NO_ROW),
+]
+CALL = ["call", HOST, "ASKED.FIRST.NIL", "--types", "asked.x"]
+
+
+def question(version, udp):
+    """The call by which a version of the registry is asked, behind its xid."""
+    if version == 2:
+        row = words(PROGRAM, 1, 17 if udp else 6, 0)
+    else:
+        row = words(PROGRAM, 1) + opaque(b"udp" if udp else b"tcp") + opaque(b"") + opaque(b"")
+    return words(0, 2, REGISTRY, version, 3, 0, 0, 0, 0) + row
+
+
+def registry(answers):
+    """Answers as the registry's versions 4, 3 and 2, and as the program itself."""
+
+    def answer(server, message, datagram):
+        xid, program, version = struct.unpack(">I8xII", message[:20])
+        told = success(xid=xid) if program != REGISTRY else words(xid, 1, 0, 0, 0, 2, 2, 4)
+        if program == REGISTRY and answers[4 - version] is not None:
+            told = success(answers[4 - version], xid=xid)
+        return [told if datagram else marked(told)]
+
+    return answer
+
+
+def answered_rows(program, folder):
+    """What the registry is asked, and what is printed of what it answers."""
+    for answers, versions, status, output, faults in ANSWERS:
+        for over in ([], ["--udp"]):
+            with Server(registry(answers), 111) as server:
+                got, _ = run(program, folder, [*CALL, *over])
+            asked = [question(version, over) for version in versions]
+            called = [words(0, 2, PROGRAM, 1, 0, 0, 0, 0, 0)] * (status == 0)
+            well = got == (status, output, faults) and [it[4:] for it in server.calls] == asked + called
+            yield f"a registry that answers {answers} {' '.join(over)}", well, (got, [it.hex() for it in server.calls])
+
+
+def pinged_rows(program, folder):
+    """A program that is pinged without a version is looked up by version 0."""
+    answers = (opaque(b"127.0.0.1.0.111"), None, None)
+    for name, version in (("536870913", 0), ("536870913.7", 7)):
+        for over in ([], ["--udp"]):
+            with Server(registry(answers), 111) as server:
+                got, _ = run(program, folder, ["ping", HOST, name, *over])
+            line = rb"536870913 %d answered in \d+ microseconds\n" % version
+            sent = [it[12:24] + it[40:48] for it in server.calls]
+            wanted = [words(REGISTRY, 4, 3, PROGRAM, version), words(PROGRAM, version, 0)]
+            well = re.fullmatch(line, got[1]) and sent == wanted
+            yield f"ping {name} {' '.join(over)} by the registry", well, (got, sent)
+
+
+def hindered_rows(program, folder):
+    """A registry that hinders is waited for no longer, and one that is not there is a socket fault."""
+    for answer, over, status, faults in (
+        (silent, [], 3, b"no answer within 2 seconds\n"),
+        (silent, ["--udp"], 3, b"no answer within 2 seconds\n"),
+        (endless, [], 3, b"no answer within 2 seconds\n"),
+        (garbage, [], 1, NO_ROW),
+        (garbage, ["--udp"], 1, NO_ROW),
+    ):
+        with Server(answer, 111):
+            got, took = run(program, folder, [*CALL, "--timeout", "2", *over])
+        well = got == (status, b"", faults) and took < 4
+        yield f"a registry that is {answer.__name__} {' '.join(over)}", well, (got, took)
+    for over in ([], ["--udp"]):
+        got, took = run(program, folder, [*CALL, *over])
+        yield f"no registry {' '.join(over)}", got == (3, b"", b"socket fault\n") and took < 3, (got, took)
+
+
+def refused_rows(program, folder, heap):
+    """Each growth, read and write refused, of the look-up and of the call."""
+    for over in ([], ["--udp"]) if heap else ():
+        with Server(registry((None, opaque(b""), words(111))), 111):
+            later = first_growth(program, folder, heap)
+            got, counts, bad = swept(program, folder, heap, [*CALL, *over], begin=later)
+        name = f"by the registry {' '.join(over)}, {counts} growths, reads and writes refused"
+        yield name, got[0] == 0 and not bad, (got, bad[:3])
+
+
+def registered_rows(program, heap):
+    """The rows of this script in a network of its own, each whether it is as it should be."""
+    inside = 'ip link set lo up && exec "$@"'
+    own = ["unshare", "-rn", "sh", "-c", inside, "own"]
+    able = all(shutil.which(it) for it in ("unshare", "ip"))
+    if not able or subprocess.run([*own, "true"], capture_output=True, check=False).returncode:
+        print("a network of its own is not there: the rows of a registry at port 111 are skipped")
+        return
+    words_of_it = [sys.executable, os.path.realpath(__file__), program, heap or ""]
+    said = subprocess.run([*own, *words_of_it], capture_output=True, text=True, timeout=1800, check=False)
+    print(said.stdout + said.stderr, end="")
+    told = re.search(r"^(\d+) well of (\d+)$", said.stdout, re.M)
+    well, count = (int(told[1]), int(told[2])) if told else (0, 1)
+    for number in range(count):
+        yield number < well
+
+
+def main(program, heap):
+    well = []
+    with tempfile.TemporaryDirectory() as folder:
+        with open(f"{folder}/asked.x", "wb") as it:
+            it.write(DECLARED)
+        for rows in (answered_rows, pinged_rows, hindered_rows, lambda *of: refused_rows(*of, heap)):
+            for name, is_well, told in rows(program, folder):
+                print(f"oncrpc call, {name}: {'as it should' if is_well else told}", flush=True)
+                well.append(bool(is_well))
+    print(f"{well.count(True)} well of {len(well)}")
+
+
+if __name__ == "__main__":
+    main(*sys.argv[1:])

@@ -1,0 +1,5 @@
+pub mod Inputs
+pub mod Numbers
+pub mod Sendings
+pub mod Told
+pub mod Written

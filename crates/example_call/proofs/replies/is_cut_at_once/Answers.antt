@@ -1,0 +1,29 @@
+use Rattle.std.proofs.Common.{◌∙◌, [], refl}
+use Rattle.rpc_engine.specs.Exchanged.{Truncated}
+use Rattle.oncrpc_call.specs.Asked.{wanted_of}
+use Rattle.example_call.proofs.Inputs.{none_case}
+use Rattle.example_call.proofs.Told.{refused_as, said_as, shown_as}
+use Rattle.example_call.proofs.Written.{none_written}
+use Rattle.example_call.proofs.replies.is_cut_at_once.Goals as goal
+
+pub returns-clause-none : goal.returns-clause-none
+returns-clause-none g c = λ zero.
+    let e = c.call_over.ensures in
+    let p = e.ends.printed zero in
+    let xid = c.args.asked.now.call.xid in
+    let none = none_case c.no_record_begins_another.ensures.whole c.too_long_ends_the_stream.ensures.none xid in
+    shown_as c.exchanges_have_one_outcome.ensures.exclusive (wanted_of c.args.asked.now) [] xid (Truncated 0) none
+    xid refl _ c.new-reader.ensures.left e.answer p.text e.exact p.shows
+
+pub returns-clause-said : goal.returns-clause-said
+returns-clause-said g c = λ one.
+    let e = c.call_over.ensures in
+    let s = e.ends.said one in
+    let xid = c.args.asked.now.call.xid in
+    let none = none_case c.no_record_begins_another.ensures.whole c.too_long_ends_the_stream.ensures.none xid in
+    let told = refused_as c.exchanges_have_one_outcome.ensures.exclusive (wanted_of c.args.asked.now) [] xid
+    (Truncated 0) none xid refl _ c.new-reader.ensures.left e.answer s.line e.exact s.refuses in
+    said_as (record { taken = g.F.Sink.taken; lost = g.F.Sink.failures }) _ _ s.line _ (told ∙ none_written) s.said
+
+pub returns-clause-unprinted : goal.returns-clause-unprinted
+returns-clause-unprinted g c = c.call_over.ensures.ends.unprinted

@@ -1,0 +1,44 @@
+-- The arguments that are left are those of the bytes that are left.
+use Rattle.std.proofs.Common.{rules, ◌≡◌, ◌≢◌, ℕ, ◌+◌, ◌-◌, List, length, take, drop, subst, sym}
+use Rattle.std.proofs.lemmas.List.{take_rest}
+use Rattle.xdr_types.specs.View.{tree}
+use Rattle.xdr_stream.specs.declared.fault.Reason.TheVariants as reason
+use Rattle.xdr_lang.specs.Views.{places}
+use Rattle.oncrpc_call.specs.Asking.{AreArguments, AreKinds}
+use Rattle.oncrpc_call.proofs.Behind.{behind_first, none_first, one_left, place_at, with_first}
+use Rattle.oncrpc_call.proofs.arguments.judge_arguments.Goals as goal
+
+pub returns-in-Err-2-clause-refused : goal.returns-in-Err-2-clause-refused
+returns-in-Err-2-clause-refused c = λ h.
+    let K = c.args.schema.now.kinds in
+    let ids = c.args.kinds.now in
+    let at = c.arguments.at in
+    let rest = c.arguments.rest.now in
+    let known : c.in-Err-2.fault.why ≢ reason.NoMemory = search rules in
+    none_first K (place_at ids at) (places (drop (at + 1) ids)) c.args.limits rest c.in-Err-2.fault.why known
+    c.in-Err-2.ensures.refusal.refused
+    (subst (λ (xs : List ℕ). AreArguments K xs c.args.limits rest) (one_left ids at c.arguments-test.true)
+    (c.arguments.invariant.back h))
+
+pub arguments-preserved : goal.arguments-preserved
+arguments-preserved c =
+    let K = c.args.schema.now.kinds in
+    let ids = c.args.kinds.now in
+    let at = c.arguments.at in
+    let limits = c.args.limits in
+    let rest = c.arguments.rest.now in
+    let used = c.in-Ok.used in
+    let others = places (drop (at + 1) ids) in
+    let inv = c.arguments.invariant in
+    let is = c.in-Ok.ensures.value in
+    let left = one_left ids at c.arguments-test.true in
+    let tail : take (length rest - used) (drop used rest) ≡ drop used rest = take_rest rest used in
+    record {
+      on = λ h. inv.on (subst (λ (xs : List ℕ). AreArguments K xs limits rest) (sym left)
+          (with_first K (place_at ids at) others limits rest (tree c.in-Ok._value) used is.0 is.1 is.2
+          c.in-Ok.ensures.only (subst (λ (b : List ℕ). AreArguments K others limits b) tail h)));
+      back = λ h. subst (λ (b : List ℕ). AreArguments K others limits b) (sym tail)
+          (behind_first K (place_at ids at) others limits rest (tree c.in-Ok._value) used is.0 is.1 is.2
+          c.in-Ok.ensures.only (subst (λ (xs : List ℕ). AreArguments K xs limits rest) left (inv.back h)));
+      known = λ h. (subst (λ (xs : List ℕ). AreKinds K xs) left (inv.known h)).1;
+    }

@@ -1,0 +1,121 @@
+-- The call that a name and arguments ask for (RFC 5531 sections 9 and 12.3).
+use Rattle.std.specs.Prelude.{◌≡◌, ◌⊎◌, ℕ, ◌<◌, ◌≤◌, List, [], ◌∷◌, ◌++◌, length, Option, None, Some, ⊤}
+use Rattle.std.specs.List.{AllByRecursion}
+use Rattle.xdr_types.specs.Kinds.{KindView}
+use Rattle.xdr_types.specs.Named.{basic}
+use Rattle.xdr_types.specs.Spelling.{bytes_of}
+use Rattle.xdr_types.specs.Tree.{Tree}
+use Rattle.xdr_types.specs.Within.{Bounds, FitsWithin}
+use Rattle.xdr_lang.specs.Declarations.{Declared}
+use Rattle.rpc_message.specs.Message.{AuthView, CallView}
+use Rattle.rpc_message.specs.View.{auth_view, call_view}
+use Rattle.oncrpc_procedures.specs.Meant.{Target}
+use Rattle.oncrpc_procedures.specs.Names.{Names}
+use Rattle.oncrpc_procedures.specs.Unnamed.{NamesNone}
+use Rattle.oncrpc_call.specs.declared.asked.Asked.{Asked}
+use Rattle.oncrpc_call.specs.declared.asked.Form.{Form}
+use Rattle.oncrpc_call.specs.declared.asked.Form.TheVariants as form
+use Rattle.oncrpc_call.specs.declared.asking.Terms as declared
+use Rattle.oncrpc_call.specs.declared.asking.TheConstants.{MOST_ARGUMENTS}
+use Rattle.oncrpc_call.specs.declared.unasked.Unasked.{Unasked}
+use Rattle.oncrpc_call.specs.declared.unasked.Unasked.TheVariants as unasked
+
+-- ---- arguments
+
+-- the bytes are arguments of these kinds: a value of each within the limits, one behind another, and nothing after (RFC
+-- 4506 section 4, RFC 5531 section 12.2)
+abbrev pub AreArguments : List KindView → (places : List ℕ) → Bounds → (bytes : List ℕ) → Type 0
+AreArguments kinds [] limits bytes = bytes ≡ []
+AreArguments kinds (k ∷ ks) limits bytes =
+    (v : Tree) × (rest : List ℕ) × FitsWithin kinds k limits v × (bytes ≡ bytes_of kinds k v ++ rest)
+    × AreArguments kinds ks limits rest
+
+-- each place is that of a kind
+abbrev pub AreKinds : List KindView → (places : List ℕ) → Type 0
+AreKinds kinds places = AllByRecursion (λ k. k < length kinds) places
+
+-- why bytes are no arguments; where memory was refused, or a place is that of no kind, that is not known
+abbrev pub AreRefused : List KindView → (places : List ℕ) → Bounds → (bytes : List ℕ) → Unasked → Type 0
+AreRefused kinds places limits bytes (unasked.Argument at f) = AreArguments kinds places limits bytes → ⊥
+AreRefused kinds places limits bytes (unasked.Follows count) = AreArguments kinds places limits bytes → ⊥
+AreRefused kinds places limits bytes unasked.Kind = AreKinds kinds places → ⊥
+AreRefused kinds places limits bytes unasked.NoMemory = ⊤
+AreRefused kinds places limits bytes _ = ⊥
+
+-- ---- the call
+
+-- what a caller chooses
+pub record Terms : Type 0 where
+  pub xid : ℕ
+  pub cred : AuthView
+  pub limits : Bounds
+  pub form : Form
+
+abbrev pub terms_of : declared.Terms → Terms
+terms_of t = record { xid = t.xid; cred = auth_view t.cred; limits = t.limits; form = t.form }
+
+-- the call of a procedure, with no verifier (RFC 5531 section 9)
+abbrev pub call_for : Target → (xid : ℕ) → (cred : AuthView) → (args : List ℕ) → CallView
+call_for t xid cred args = record {
+  xid = xid;
+  prog = t.program;
+  vers = t.version;
+  proc = t.procedure.number;
+  cred = cred;
+  verf = record { flavor = 0; body = [] };
+  args = args;
+}
+
+-- the kind of a result is the declared one, and of void the one without bytes among the basic kinds
+abbrev pub IsResultKind : List KindView → (declared : Option ℕ) → List KindView → (place : ℕ) → Type 0
+IsResultKind kinds None own place = (own ≡ basic.kinds) × (place ≡ 5)
+IsResultKind kinds (Some k) own place = (own ≡ kinds) × (place ≡ k)
+
+-- The name names a procedure, the bytes are arguments of it, and this is its call, on these terms.
+pub record AsksFor (name : List ℕ) (d : Declared) (args : List ℕ) (terms : Terms) (asked : Asked) : Type 0 where
+  pub target : Target
+  pub named : Names name d.programs target
+  pub short : length args ≤ MOST_ARGUMENTS
+  pub judged : AreArguments d.schema.kinds target.procedure.arguments terms.limits args
+  pub call_is : call_view asked.call ≡ call_for target terms.xid terms.cred args
+  pub result_is : IsResultKind d.schema.kinds target.procedure.result asked.schema.kinds asked.result.place
+  pub limits_are : asked.limits ≡ terms.limits
+  pub form_is : asked.form ≡ terms.form
+
+-- the call of procedure 0, which each program has, by nobody (RFC 5531 section 12.1)
+abbrev pub null_call : (program version : ℕ) → CallView
+null_call program version = record {
+  xid = 1;
+  prog = program;
+  vers = version;
+  proc = 0;
+  cred = record { flavor = 0; body = [] };
+  verf = record { flavor = 0; body = [] };
+  args = [];
+}
+
+-- This is that call; its result is void, and printed as a line of no bytes.
+pub record AsksNull (program version : ℕ) (asked : Asked) : Type 0 where
+  pub call_is : call_view asked.call ≡ null_call program version
+  pub kinds_are : asked.schema.kinds ≡ basic.kinds
+  pub place_is : asked.result.place ≡ 5
+  pub form_is : asked.form ≡ form.Hex
+
+-- the kind of the result, where there is one, is one of these
+abbrev pub IsResultKnown : List KindView → Option ℕ → Type 0
+IsResultKnown kinds None = ⊤
+IsResultKnown kinds (Some k) = k < length kinds
+
+-- Of the procedure that is named, these are no arguments, or a kind is not there.
+pub record Mismatches (name : List ℕ) (d : Declared) (args : List ℕ) (limits : Bounds) (why : Unasked) : Type 0 where
+  pub target : Target
+  pub named : Names name d.programs target
+  pub refused : AreRefused d.schema.kinds target.procedure.arguments limits args why
+      ⊎ ((why ≡ unasked.Kind) × (IsResultKnown d.schema.kinds target.procedure.result → ⊥))
+
+-- why nothing is asked
+abbrev pub AsksNothing : (name : List ℕ) → Declared → (args : List ℕ) → Bounds → Unasked → Type 0
+AsksNothing name d args limits (unasked.Name why) = NamesNone name d.programs why
+AsksNothing name d args limits unasked.TooLong = MOST_ARGUMENTS < length args
+AsksNothing name d args limits unasked.NoMemory = ⊤
+AsksNothing name d args limits why = Mismatches name d args limits why

@@ -1,0 +1,64 @@
+-- What is sent and received where a call is made by datagrams (RFC 5531 section 9).
+use Rattle.std.specs.Prelude.{◌≡◌, ◌⊎◌, ℕ, ◌+◌, ◌-◌, ◌≤◌, List, [], ◌∷◌, length, replicate, Option, Result, Err}
+use Rattle.std.specs.List.{AllByRecursion}
+use Rattle.xdr_io.specs.Reported.{Counts}
+use Rattle.rpc_message.specs.declared.message.Reply.{Reply}
+use Rattle.rpc_engine.specs.declared.fault.ClientFault.{ClientFault}
+use Rattle.rpc_engine.specs.declared.fault.ClientFault.TheVariants as fault
+use Rattle.rpc_engine.specs.DatagramExchange.{IsMessageCase, OtherReply, Replies}
+use Rattle.rpc_engine.specs.Exchanged.{read_failures, write_failures}
+use Rattle.rpc_engine.specs.Ports.{Reported, Receives, Sends}
+use Rattle.oncrpc_service.specs.Datagrams.{Reporting}
+use Rattle.oncrpc_call.specs.declared.datagrams.TheConstants.{MOST_PASSED}
+
+-- what a port tells of itself
+abbrev pub report_of : {P : Type 0} → (left sent : P → Reported) → (unreceived unsent : P → Option ℕ) → P → Reporting
+report_of left sent unreceived unsent p =
+    record { left = left p; sent = sent p; unreceived = unreceived p; unsent = unsent p }
+
+-- a reply to another call than that with this xid
+abbrev pub IsOther : (xid : ℕ) → (message : List ℕ) → Type 0
+IsOther xid message = (got : ℕ) × IsMessageCase xid message (OtherReply got)
+
+-- Replies to other calls were received, and passed over.
+pub record PassesOver (xid : ℕ) (left left' : Reported) (passed : List (List ℕ)) : Type 0 where
+  pub others : AllByRecursion (IsOther xid) passed
+  pub received : Receives left left' passed
+
+-- What an answer says of what was received behind them: the message of which it speaks; where a device failed, or there
+-- were too many, none; where memory was refused one or none.
+abbrev pub IsAnswer : (xid : ℕ) → (left left' : Reported) → Result Reply ClientFault → Type 0
+IsAnswer xid left left' (Err fault.Read) = Receives left left' []
+IsAnswer xid left left' (Err (fault.Write written)) = (written ≡ 0) × Receives left left' []
+IsAnswer xid left left' (Err fault.TooManyReads) = Receives left left' []
+IsAnswer xid left left' (Err (fault.WrongXid got)) = ⊥
+IsAnswer xid left left' (Err fault.NoMemory) =
+    Receives left left' [] ⊎ ((message : List ℕ) × Receives left left' (message ∷ []))
+IsAnswer xid left left' answer = (message : List ℕ) × Receives left left' (message ∷ []) × Replies xid message answer
+
+-- Replies to other calls were passed over, and the answer speaks of what came behind them.
+pub record Answered (xid : ℕ) (left left' : Reported) (answer : Result Reply ClientFault) : Type 0 where
+  pub passed : List (List ℕ)
+  pub before : Reported
+  pub over : PassesOver xid left before passed
+  pub answered : IsAnswer xid before left' answer
+  pub many : answer ≡ Err fault.TooManyReads → MOST_PASSED ≤ length passed
+
+-- how many receives failed where a call was sent so many times: after each sending one, but for the last, of which the
+-- answer speaks
+abbrev pub unanswered : (times : ℕ) → Result Reply ClientFault → ℕ
+unanswered times (Err (fault.Write written)) = times
+unanswered times answer = times - 1 + read_failures answer
+
+-- The call was sent, so many times at most, and this is the answer. Where no receive brought a reply it was sent as
+-- many times as it may be, and it was not sent at all only where memory was refused or the first send failed.
+pub record AsksByDatagrams (xid : ℕ) (call : List ℕ) (most : ℕ) (old new : Reporting)
+    (answer : Result Reply ClientFault) : Type 0 where
+  pub times : ℕ
+  pub few : times ≤ most
+  pub all : answer ≡ Err fault.Read → times ≡ most
+  pub none : times ≡ 0 → (answer ≡ Err fault.NoMemory) ⊎ (answer ≡ Err (fault.Write 0))
+  pub sent : Sends old.sent new.sent (replicate times call)
+  pub answer_is : Answered xid old.left new.left answer
+  pub unreceived : Counts (unanswered times answer) old.unreceived new.unreceived
+  pub unsent : Counts (write_failures answer) old.unsent new.unsent

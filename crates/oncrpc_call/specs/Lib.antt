@@ -1,0 +1,10 @@
+pub mod Asked
+pub mod Asking
+pub mod CallEnds
+pub mod Datagrams
+pub mod Laws
+pub mod Lines
+pub mod Private
+pub mod Questions
+pub mod Replies
+pub mod Results

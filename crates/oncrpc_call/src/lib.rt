@@ -1,0 +1,33 @@
+//! A procedure of any server called: a call is sent, and the result that comes is judged to its last byte and printed
+//! (RFC 5531, section 9).
+//!
+//! - `call`: the call over a connection or by datagrams, and how it ends. `asked`: the call, and the kind of its
+//!   result.
+//! - `datagrams`: a call that is sent again while no reply comes. `asking`: the call that a name and arguments ask for.
+//! - `arguments`: bytes judged as arguments. `unasked`: why nothing is asked.
+//! - `page`: what is printed of a reply. `results`: what results are. `refusal`: the lines of other replies.
+//! - `null`: the call of procedure 0. `question`: that for a port. `laws`: what follows from the definitions.
+#![tactic(auto)]
+
+mod arguments;
+mod asked;
+mod asking;
+mod call;
+mod datagrams;
+mod laws;
+mod null;
+mod page;
+mod question;
+mod refusal;
+mod results;
+mod unasked;
+
+pub use arguments::judge_arguments;
+pub use asked::{Asked, Form};
+pub use asking::{MOST_ARGUMENTS, Terms, ask};
+pub use call::{call_datagram, call_over};
+pub use datagrams::{MOST_PASSED, ask_by_datagrams};
+pub use laws::results_have_one_ending;
+pub use null::ask_null;
+pub use question::port_question;
+pub use unasked::Unasked;
