@@ -20,6 +20,8 @@ static inline const char *oncrpc_status_text(uint32_t status) {
 PAGES = ["oncrpc_check", "oncrpc_free", "oncrpc_status_text"]
 PKG_CONFIG = "prefix=/library\nlibdir=${prefix}\nincludedir=${prefix}/include\n\nName: oncrpc\nLibs: -L\"${libdir}\"\n"
 FOLDERS = "prefix=%s\nlibdir=${prefix}/lib\nincludedir=${prefix}/include\n\nName: oncrpc\nLibs: -L\"${libdir}\"\n"
+# The declarations that are installed.
+DECLARED = ("bootparam", "mount", "nfs", "nlm", "nsm", "rpcbind", "yp", "ypbind")
 # What is installed: below PREFIX, in the checkout, and with what mode.
 PROGRAM = {
     "bin/oncrpc": ("crates/oncrpc/out/oncrpc", 0o755),
@@ -29,7 +31,7 @@ PROGRAM = {
     "share/zsh/site-functions/_oncrpc": ("completions/_oncrpc", 0o644),
     "share/fish/vendor_completions.d/oncrpc.fish": ("completions/oncrpc.fish", 0o644),
     **{f"share/oncrpc/examples/{it}": (f"examples/{it}", 0o644) for it in ("file.x", "file.hex", "ping.x")},
-    **{f"share/oncrpc/{it}.x": (f"share/oncrpc/{it}.x", 0o644) for it in ("mount", "nfs", "nlm", "nsm", "rpcbind")},
+    **{f"share/oncrpc/{it}.x": (f"share/oncrpc/{it}.x", 0o644) for it in DECLARED},
     "share/oncrpc/systemd/oncrpc-registry.service": ("share/oncrpc-registry.service", 0o644),
     **{f"share/doc/oncrpc/{it}.md": (f"docs/{it}.md", 0o644) for it in ("LANGUAGE", "FORMATS", "LIBRARY")},
 }

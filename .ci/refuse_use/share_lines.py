@@ -14,19 +14,52 @@ SAME = [
     ("rpcbind", ["rfc1833_rpcbind"]),
     ("rpcbind", ["rfc1833_port_mapper"]),
 ]
-NUMBERS = {"rpcbind": 100000, "nfs": 100003, "mount": 100005, "nlm": 100021, "nsm": 100024}
+NUMBERS = {
+    "rpcbind": 100000,
+    "nfs": 100003,
+    "yp": 100004,
+    "mount": 100005,
+    "ypbind": 100007,
+    "nlm": 100021,
+    "nsm": 100024,
+    "bootparam": 100026,
+}
+# A text, one of rpcgen's dialect below /usr/include that declares the same program, and what is declared there otherwise
+# than peers send it.
+RPCGENS = [
+    ("bootparam", "rpcsvc/bootparam_prot.x", ()),
+    ("mount", "rpcsvc/mount.x", ()),
+    ("yp", "rpcsvc/yp.x", ("100004.2.8.result",)),
+    ("ypbind", "rpcsvc/yp.x", ()),
+]
 
 
-def declared(program, path):
+def declared(program, path, *words):
     """The procedures that a text declares, and the kind and the counts of bytes of each argument and result."""
-    ended = subprocess.run([program, "types", "--types", path], capture_output=True, text=True, timeout=60, check=False)
+    asked = [program, "types", *words, "--types", path]
+    ended = subprocess.run(asked, capture_output=True, text=True, timeout=60, check=False)
     lines = [line.split() for line in ended.stdout.splitlines()]
     named = {line[2]: [] for line in lines if line[0] == "procedure"}
     return {**named, **{line[1]: line[3:] for line in lines if line[0] in ("argument", "result")}}
 
 
+def rpcgens_rows(program):
+    """Texts that no RFC has, beside those of Debian's packages, where these are installed."""
+    for name, path, others in RPCGENS:
+        if not os.path.exists(f"/usr/include/{path}"):
+            print(f"share/oncrpc/{name}.x beside {path}: skipped, that is not installed")
+            continue
+        found = declared(program, f"{ROOT}/share/oncrpc/{name}.x")
+        theirs = declared(program, f"/usr/include/{path}", "--dialect", "rpcgen")
+        wanted = {it: theirs[it] for it in theirs if it.startswith(f"{NUMBERS[name]}.") and it not in others}
+        other = {it: (found.get(it), wanted[it]) for it in wanted if found.get(it) != wanted[it]}
+        print(f"share/oncrpc/{name}.x beside {path}: {len(wanted)} lines, {other or 'all the same'}")
+        yield len(wanted) > 5 and not other
+
+
 def share_rows(program):
     """Each text beside the RFC's, and each recorded argument and result as a value to its last byte."""
+    yield from rpcgens_rows(program)
     for name, number in NUMBERS.items():
         found = declared(program, f"{ROOT}/share/oncrpc/{name}.x")
         well = f"{number}." in " ".join(found) and all(it.startswith(f"{number}.") for it in found)
