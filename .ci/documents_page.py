@@ -40,6 +40,7 @@ class Page:
                 for at, said in self.spans(block[0], block.start()):
                     self.check_word(at, said)
         self.check_uses()
+        self.check_places()
         self.check_links()
         for found in LETTER.finditer(text_of(self.path)):
             self.note(found.start(), found[0], "the letter of a kit")
@@ -121,6 +122,15 @@ class Page:
                 if name in used() and line not in text_of("crates.txt").splitlines():
                     fault = "crates.txt has another line"
                 self.note(block.start(), line, fault)
+
+    def check_places(self):
+        """A file in brackets behind words in backticks, `one` and `two` (`crate/src/file.rt`), has an item of each name."""
+        word = r"`\w+`"
+        for found in re.finditer(rf"((?:{word}(?:,|,? and)\s+)*{word})\s+\(`([\w/]+\.rt)`\)", self.text):
+            path = next((it for it in (found[2], f"crates/{found[2]}") if os.path.isfile(f"{ROOT}/{it}")), None)
+            for name in re.findall(r"`(\w+)`", found[1]):
+                is_there = path and re.search(rf"\b(?:fn|struct|enum|trait|const|type) {name}\b", text_of(path))
+                self.note(found.start(), f"{name} ({found[2]})", None if is_there else "no item of that name there")
 
     def check_links(self):
         plain = re.sub(r"`[^`\n]*`", lambda it: " " * len(it[0]), self.text)

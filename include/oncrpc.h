@@ -7,9 +7,9 @@
  *
  * SHOWN BY TESTS, and by no contract: that ONCRPC_NO_MEMORY comes only where malloc or realloc refused, or as
  * oncrpc_normalise says of its input. That no memory is lost. Which error of a text is told, and at which line and
- * column; of JSON that the place is where the refused value or key begins. The
- * stack that is needed, and that no call ends the process. The numbers and the texts of this file, and the sizes and the places of
- * fields. That the hashes of a registry depend on its seed is shown by neither: it is the code.
+ * column; of JSON that the place is where the refused value or key begins. The stack that is needed, and that no call
+ * ends the process. The numbers and the texts of this file, and the sizes and the places of fields. No contract and no
+ * test shows that the hashes of a registry depend on its seed: read the code for it.
  *
  * POINTERS. A pointer to bytes, parts or rows has a count beside it, and leads to so many. Where the count is 0 it may
  * be NULL, and is not looked at. No other pointer may be NULL: neither a handle, nor an outcome, nor a call, nor a
@@ -132,13 +132,13 @@ enum {
 /* Why items are refused: `why` of an outcome with ONCRPC_BAD_ITEM. That is one of these, or the reason above for which
  * the bytes of the item would be refused: ONCRPC_BAD_BOOL to ONCRPC_TOO_LARGE.
  *
- * Of several reasons the first is told. An item that no value has comes first: its form is none, it is a flag or a
+ * Of several reasons the first is told. An item that no value has comes first: its form is unknown, it is a flag or a
  * count out of range, or content outside of the data. Then come ONCRPC_PAST_END, and ONCRPC_TOO_DEEP of a value that is
  * too deep before its first item. Then another item that is due, and then a number out of range. Then ONCRPC_TOO_LARGE
  * of an item whose bytes pass the limit on bytes: of content above its maximum too. Last are the other reasons. */
 enum {
     ONCRPC_WRONG_ITEM = 9,    /* another item is due: a number, a flag, a count or content, or content of another
-                                 fixed size; or its form is none */
+                                 fixed size; or its form is unknown */
     ONCRPC_NOT_IN_RANGE = 10, /* a number that does not go into the bytes of its type; a flag above 1; a count above
                                  4294967295 */
     ONCRPC_PAST_END = 11,     /* too many items: the value is whole before this one */
@@ -178,7 +178,7 @@ enum {
     ONCRPC_FLOATING_KIND = 4,   /* float, double or quadruple */
     ONCRPC_NAME_TWICE = 5,      /* a name that is declared twice in one scope */
     ONCRPC_NAME_UNKNOWN = 6,    /* a name that is not declared */
-    ONCRPC_NOT_A_SIZE = 7,      /* a size or a maximum that is none */
+    ONCRPC_NOT_A_SIZE = 7,      /* a number that cannot be a size or a maximum */
     ONCRPC_OUT_OF_RANGE = 8,    /* a number out of the range of its place */
     ONCRPC_TYPEDEF_LOOP = 9,    /* a typedef that leads to itself */
     ONCRPC_BAD_SCHEMA = 10,     /* types that no value can have; `inner` is the number of the schema's fault */
@@ -386,8 +386,8 @@ uint32_t oncrpc_declarations_read(
 /* The same of a text in rpcgen's dialect (docs/LANGUAGE.md, "rpcgen's dialect"). For its lines `#ifdef` the names in
  * `names` are defined, as by `--define` of the program: RPC_HDR, or several with a space between two. `text` and `names`
  * may be NULL where their count is 0.
- * ONCRPC_OK, _UNDECLARED, _NO_MEMORY. ONCRPC_NO_KIND: one of the names is none that such a line can ask for: letters,
- * digits and _, no digit first, and no value. The text was not looked at. */
+ * ONCRPC_OK, _UNDECLARED, _NO_MEMORY. ONCRPC_NO_KIND: one of the names is no identifier (letters, digits and _, no
+ * digit first), as where a value stands behind it: BIG=1. The text was not looked at. */
 uint32_t oncrpc_declarations_read_dialect(
     const void *text, size_t text_count,
     const void *names, size_t names_count,
@@ -894,7 +894,7 @@ uint32_t oncrpc_records_start(oncrpc_records *records, uint32_t limit, oncrpc_ou
  *
  * ONCRPC_REFUSED: `why` is ONCRPC_TOO_LONG, and `at` the place of the header that brings its record above the limit;
  * the records before it were handed out. Or oncrpc_records_end told before that the stream is cut: this is told again.
- * ONCRPC_NO_MEMORY: the record that had begun is lost. These two are answered for ever after, by oncrpc_records_end
+ * ONCRPC_NO_MEMORY: the record that had begun is lost. These two are answered from then on, by oncrpc_records_end
  * too, with the same `why` and `at`, whatever is fed. ONCRPC_NO_READER. */
 uint32_t oncrpc_records_feed(
     oncrpc_records *records,
@@ -914,7 +914,7 @@ uint32_t oncrpc_records_take(
 /* Tells whether the stream may end behind the bytes that were taken.
  * ONCRPC_OK: they end with a record's last byte, or there are none; a record that waits waits on, and nothing is
  * changed. ONCRPC_REFUSED: `why` is ONCRPC_TRUNCATED, and `at` the count of all bytes that were taken, which end inside
- * a record, for ever after. Or `why` and `at` are those that oncrpc_records_feed told. ONCRPC_NO_MEMORY: it told that.
+ * a record; it is told from then on. Or `why` and `at` are those that oncrpc_records_feed told. ONCRPC_NO_MEMORY: it told that.
  * ONCRPC_NO_READER. It takes no memory. */
 uint32_t oncrpc_records_end(oncrpc_records *records, oncrpc_outcome *outcome);
 

@@ -20,7 +20,7 @@ size_t growth_bytes(void);
 /* How many blocks are not given back. */
 long live_blocks(void);
 
-/* An answer that is right, that is want of memory where a growth is refused, or that is wrong, which is printed. */
+/* An answer that is right, that is NoMemory where a growth is refused, or that is wrong, which is printed. */
 #define judge(is_right, status) judge_at(is_right, status, __FILE__, __LINE__)
 void judge_at(int is_right, uint32_t status, const char *file, int line);
 

@@ -106,7 +106,7 @@ def deepest_rows(program, folder):
 
 
 def long_rows(program, folder):
-    """The longest content and a hundred thousand numbers, where want of memory is wrong."""
+    """The longest content and a hundred thousand numbers, where an allocation failure is wrong."""
     content, numbers = bytes(range(256)) * 65535, range(100000)
     declared(folder, b"typedef unsigned int numbers<>;")
     items = b"".join(number.to_bytes(4, "big") for number in (len(numbers), *numbers))

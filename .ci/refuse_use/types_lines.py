@@ -115,7 +115,7 @@ def at_size():
 
 
 def size_rows(program, folder):
-    """The longest text, with thousands of types and arguments: want of memory is wrong."""
+    """The longest text, with thousands of types and arguments: an allocation failure is wrong."""
     text, lines, told = at_size()
     with open(f"{folder}/size_of.x", "w", encoding="ascii") as it:
         it.write(text)

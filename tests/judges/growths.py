@@ -58,13 +58,13 @@ from .streams import (
 )
 from .values import checked, fault_of, fed, records_over, typed, value_task
 
-# Growths of memory that are refused. What a case answers in place of its whole answer tells want of memory.
+# Growths of memory that are refused. What a case answers in place of its whole answer tells of an allocation failure.
 NO_MEMORY = "out of memory"
 SYSTEM_ERR = "00000005"
 
 
 def is_some_run(told, whole, case, most):
-    """Whether what was served is a run in which at most so many records met want of memory, before the end or at it."""
+    """Whether what was served is a run in which at most so many records met NoMemory, before the end or at it."""
     answer, (written, after) = told.answer, told.streams
     found, _ = records_in(case.given, 65536)
     made = records_in(written, WIDEST)[0]
@@ -93,7 +93,7 @@ def is_some_run(told, whole, case, most):
 
 
 def connection_lines(told, whole, most):
-    """Whether each line is the whole run's, or tells want of memory; or status 4 stands behind some of the lines."""
+    """Whether each line is the whole run's, or tells NoMemory; or status 4 stands behind some of the lines."""
     output, faults = told.streams
     lines, wanted = output.splitlines(), whole.streams[0].splitlines()
     missed = sum(line != right for line, right in zip(lines, wanted))
@@ -105,7 +105,7 @@ def connection_lines(told, whole, most):
 
 
 def some_parts(told, whole):
-    """Whether each part of what a registry's making and dumping tells is the whole run's, or tells want of memory."""
+    """Whether each part of what a registry's making and dumping tells is the whole run's, or tells NoMemory."""
     parts, wanted = told.answer.split("; "), whole.answer.split("; ")
     return len(parts) == 3 and all(part in (NO_MEMORY, right) for part, right in zip(parts, wanted))
 
@@ -119,7 +119,7 @@ def is_kept_before(told, case):
 
 
 def wants_memory(told, whole, case):
-    """Whether the answer tells want of memory as the call's contract has it."""
+    """Whether the answer tells of an allocation failure as the call's contract has it."""
     most = 1 if not case.refuse.endswith("..") else 10**9
     fault = re.search(r"out of memory at (\d+)", told.answer)
     is_begun = all(right.startswith(got) for got, right in zip(told.streams, whole.streams))
@@ -188,7 +188,7 @@ TAKING_ANY += "serve_datagrams write_json json_of_bytes read_json read_tokens re
 
 
 def is_granted_well(whole, case, number):
-    """The whole answer or want of memory, the same alone and with all later growths refused."""
+    """The whole answer or an allocation failure, the same alone and with all later growths refused."""
     first = {}
 
     def is_well(told, refused):

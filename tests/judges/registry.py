@@ -26,7 +26,7 @@ def append_cases():
 
 
 def is_not_appended(told, case):
-    """Whether want of memory is told, and what stood there and the rows are as they were."""
+    """Whether an allocation failure is told, and what stood there and the rows are as they were."""
     rows = WITH_7 if case.before else WITHOUT_7
     return (told.answer, told.streams) == ("out of memory, xid 1", [case.front, marked(rows)])
 
@@ -81,7 +81,7 @@ def exchange_cases():
 
 
 def is_unexchanged(told):
-    """Whether want of memory is told, and the call was sent or not."""
+    """Whether an allocation failure is told, and the call was sent or not."""
     return told.answer == "out of memory" and told.sent in ([], [NULL])
 
 

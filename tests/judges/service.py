@@ -72,7 +72,7 @@ def port_rows():
 
 
 def missed_in(records, sent):
-    """Which of the replies to the records tell want of memory, or None where one is neither right nor tells that."""
+    """Which of the replies to the records tell NoMemory, or None where one is neither right nor tells that."""
     has_row, missed = False, []
     for record, got in zip(records, sent):
         _, without, with_row, row_after = BY_RECORD[record]
@@ -100,7 +100,7 @@ def answers_so(told, whole, case, records):
 
 
 def port_wants_memory(told, whole, case):
-    """The same of the datagrams that come in a case, and that a registry that is asked tells want of memory."""
+    """The same of the datagrams that come in a case, and that a registry that is asked tells NoMemory."""
     if case.call == "datagrams_on":
         return answers_so(told, whole, case, [each for each in (SET, GETPORT, NULL) if each in case.datagrams])
     is_told = (told.answer, *told.streams) == ("4", b"", b"out of memory\n")

@@ -3,7 +3,7 @@ and random pieces of many, beside the registry's table of two states in the orde
 
 `Reading` has the records of a stream as they come (RFC 5531 section 11), and is compared with `records_in`, of whole
 streams. `Serving` says what each event is answered: it has the outputs, the bounds and the faults. Where growths are
-refused, a connection may end for want of memory, and a call may be answered by SYSTEM_ERR: nothing else changes.
+refused, a connection may end at an allocation failure, and a call may be answered by SYSTEM_ERR: nothing else changes.
 """
 import itertools
 import random

@@ -75,7 +75,7 @@ def large_sunk_cases():
 
 
 def refused_growth_cases(heap):
-    """Each growth refused, alone and with all later ones: the whole answer, or want of memory at an item, of which
+    """Each growth refused, alone and with all later ones: the whole answer, or NoMemory at an item, of which
     nothing is out, and which comes again with memory."""
     rows = [(text, name, [item for item, _ in pairs], [piece for _, piece in pairs])
             for text, name, pairs, _ in written_rows()]

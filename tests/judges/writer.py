@@ -162,7 +162,7 @@ def random_cases():
 
 
 def refused_writer_cases(heap):
-    """Each growth refused, alone and with all later ones: the whole answer, or want of memory at an item, which comes
+    """Each growth refused, alone and with all later ones: the whole answer, or NoMemory at an item, which comes
     again with memory. The items before it are whole."""
     rows = [(text, name, [item for item, _ in pairs], [piece for _, piece in pairs])
             for text, name, pairs, _ in written_rows()]

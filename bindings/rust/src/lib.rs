@@ -7,11 +7,15 @@
 //! input declares reserves memory.
 //!
 //! ```
-//! use oncrpc::{Declarations, Limits};
-//!
+//! use oncrpc::{Declarations, Item, Limits};
 //! let mut declarations = Declarations::read(b"struct point { int x; int y; };")?;
-//! let checked = declarations.check("point", Limits::MOST, &[0; 8])?;
-//! assert_eq!((checked.used, checked.more_follows), (8, false));
+//! let bytes = declarations.write("point", Limits::MOST, &[Item::Signed(-1), Item::Signed(2)])?;
+//! match declarations.check("point", Limits::MOST, &bytes) {
+//!     Ok(found) => println!("{} bytes, more follow: {}", found.used, found.more_follows),
+//!     Err(fault) => println!("{fault}"), // refused Truncated at 4
+//! }
+//! let (_, parts) = declarations.parts("point", Limits::MOST, &bytes)?;
+//! assert_eq!(parts.get("y").and_then(|part| part.i32()), Some(2));
 //! # Ok::<(), Box<dyn std::error::Error>>(())
 //! ```
 //!

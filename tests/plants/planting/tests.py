@@ -112,6 +112,7 @@ TESTS = {
     ".ci/refuse": whole(".ci/refuse", 3600),
     ".ci/clients": whole(".ci/clients", 3600),
     ".ci/library": whole(".ci/library", PROOF),
+    ".ci/documents": whole(".ci/documents", 900),
 }
 
 
