@@ -165,7 +165,7 @@ enum {
     ONCRPC_JSON_WRONG_LENGTH = 10,  /* more or fewer bytes or items than the kind has */
     ONCRPC_JSON_NO_ARM = 11,        /* a discriminant without an arm, at the value of `case` */
     ONCRPC_JSON_TOO_DEEP = 12,      /* brackets that nest above 4096 deep, at the first of these or the key before it;
-                                       or a value below the limit on depth, at the text's end */
+                                       or a value deeper than the limit on depth, at the text's end */
     ONCRPC_JSON_TOO_LARGE = 13      /* a value above the limit on bytes, at the text's end */
 };
 
