@@ -82,6 +82,7 @@ def hostile_texts():
     """Texts of a mebibyte, of the kinds to which they may be dear."""
     deep = b"[" * 4000 + b"]" * 4000
     named = b",".join(b'"m%06d":1' % number for number in range(100000))
+    level = b'{"item":"%s","next":' % (b"a" * 230)
     return {
         "arrays that are not closed": ("nums", b"[" * MEBIBYTE),
         "arrays 4000 deep, one after another": ("nums", b"[%s]" % b",".join([deep] * (MEBIBYTE // len(deep)))),
@@ -91,6 +92,9 @@ def hostile_texts():
         "100,000 members": ("list", b"{%s}" % named),
         "one member 100,000 times": ("list", b"{%s}" % b",".join([b'"item":"a"'] * 100000)),
         "one member of a union 100,000 times": ("u", b"{%s}" % b",".join([b'"case":1'] * 100000)),
+        # What is refused at the very end, so that all before it is gone over once more in the order of the text.
+        "numbers, the last one wrong": ("nums", b"[%strue]" % (b"7," * (MEBIBYTE // 2))),
+        "objects inside one another, an unknown member in each": ("list", level * 4000 + b"null" + b',"no":1}' * 4000),
     }
 
 
