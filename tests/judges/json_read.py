@@ -137,6 +137,13 @@ def deep_read_cases():
     # A bracket behind a comma and a line feed, and a key so, before the 4097th bracket.
     for given, place in ((b"[" * 4096 + b"1,\n  [", "2:3"), (b'{"a":' * 4095 + b'{"b":1,\n "c" : [', "2:2")):
         yield reading(TWICE, "twice", given), is_told(f"refused TooDeep at {place}")
+    # What stands under an unknown key nests as deep as any other. No JSON before the bracket is told before it, and no
+    # UTF-8 behind it, too.
+    unknown = b'"x":' + b"[" * 4095
+    yield reading(LIST, "list", b"{" + unknown + b"]" * 4095 + b"}"), is_told("refused UnknownMember at 1:2")
+    yield reading(LIST, "list", b"{" + unknown + b"["), is_told(f"refused TooDeep at 1:{len(unknown) + 2}")
+    yield reading(LIST, "list", b'{"y":tru,' + unknown + b"["), is_told("refused NotJson at 1:6")
+    yield reading(LIST, "list", b"{" + unknown + b"[\xff"), is_told(f"refused NotJson at 1:{len(unknown) + 3}")
 
 
 def large_read_cases():

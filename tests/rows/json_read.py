@@ -272,6 +272,10 @@ REFUSED = [
 # More fields than are looked through one by one.
 NINE = b"struct nine { int a; int b; int c; int d; int e; int f; int g; int h; int ab; };"
 SEVEN_OF_NINE = b'"ab":1,"h":1,"g":1,"f":1,"e":1,"d":1,"c":1,'
+# A union in a union.
+BOTH = b"""union inner switch (int d) { case 1: int a; case 2: void; };
+union outer switch (bool d) { case TRUE: inner i; case FALSE: opaque o<2>; };
+"""
 # The same of texts with several faults, of which the first in the order of the text is told: faults in the order of the
 # layout and against it, in one object, and in objects and arrays within others.
 ORDERED = [
@@ -342,6 +346,21 @@ ORDERED = [
     (PARTS, "arm", b'{"p":{"x":1,^"z":2,"y":[]},"case":2,"q":1}', "UnknownMember"),
     (PARTS, "arm", b'{"p":{"x":1,"y":2},"case":2,^"q":1}', "UnknownMember"),
     (PARTS, "arm", b'{"p":^{"x":true},"case":2}', "MissingMember"),
+    # Unions in unions.
+    (BOTH, "outer", b'{"i":{"a":^true,"n":7,"case":1},"case":true}', "WrongType"),
+    (BOTH, "outer", b'{"i":{"a":true,"case":^3},"zzz":7,"case":true}', "NoArm"),
+    (BOTH, "outer", b'{"i":^{"a":true},"zzz":7,"case":true}', "MissingMember"),
+    (BOTH, "outer", b'{"i":{"a":true,"case":3},"case":^1}', "WrongType"),
+    (BOTH, "outer", b'{"i":{^"a":true,"case":2},"case":true,"case":false}', "UnknownMember"),
+    (BOTH, "outer", b'{"o":^"000","i":{},"case":false}', "BadHex"),
+    (BOTH, "outer", b'{"o":"00",^"i":{},"case":false}', "UnknownMember"),
+    # Keys that are empty, and keys by their escapes.
+    (PARTS, "point", b'{"y":2,^"":[],"x":true}', "UnknownMember"),
+    (PARTS, "point", b'{"y":2,^"\\u0079":[],"x":true}', "MemberTwice"),
+    (CASES, "cases", b'{"c\\u0061se":^7.5,"case":2}', "NotWhole"),
+    (b"", "own", b'{"":^1.5,"case":false,"case":true}', "NotWhole"),
+    (b"", "own", b'{"":1,^"":2,"case":false}', "MemberTwice"),
+    (b"", "own", b'{^"":1,"case":true}', "UnknownMember"),
     # What a union has is told by its case: where that is wrong, no other member is judged.
     (FILE, "filetype", b'{"creator":7,"case":^"LISP"}', "UnknownName"),
     (FILE, "filetype", b'{"x":1,"creator":7,"case":^3}', "OutOfRange"),
