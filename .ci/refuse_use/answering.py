@@ -13,7 +13,7 @@ class Server:
     """Answers calls over TCP and UDP; `answer` gives what comes back for a call, a list of datagrams or of pieces."""
 
     def __init__(self, answer, port=0):
-        self.answer, self.calls, self.open = answer, [], True
+        self.answer, self.calls, self.moments, self.open = answer, [], [], True
         self.stream = socket.create_server((HOST, port))
         self.port = self.stream.getsockname()[1]
         self.datagrams = socket.socket(type=socket.SOCK_DGRAM)
@@ -73,6 +73,7 @@ class Server:
                 if not self.open:
                     return
                 self.calls.append(message)
+                self.moments.append(time.monotonic())
                 threading.Thread(target=self.reply, args=(message, peer), daemon=True).start()
 
     def reply(self, message, peer):
@@ -114,6 +115,12 @@ def silent(server, message, datagram):
     while server.open:
         time.sleep(0.05)
         yield b"" if not datagram else success(xid=XID + 1)
+
+
+def slow(server, message, datagram):
+    """The reply to a ping, after half a second."""
+    time.sleep(0.5)
+    return [success(xid=1) if datagram else marked(success(xid=1))]
 
 
 def greedy(server, message, datagram):

@@ -19,6 +19,7 @@ from refuse_use.answering import (
     other,
     replying,
     silent,
+    slow,
     trickle,
 )
 from refuse_use.called import ASKED, DECLARED, NOBODY, ONE_PING, PINGED, UNASKED, XID
@@ -85,7 +86,25 @@ def hindered_rows(program, folder):
             got, took = run(program, folder, line)
         well = got == (0, b"{}\n", b"") and server.calls == [call(0)] * (3 if over else 1) and 0.9 <= took <= 6
         yield f"a server that is late {over}", well, (got, took, server.calls)
+    yield from unanswered_rows(program, folder)
     yield from unheard_rows(program, folder)
+
+
+def unanswered_rows(program, folder):
+    """A call by datagrams is sent again after each second, as long as there is time, with one xid; that of another run
+    is another."""
+    xids = set()
+    for _ in range(2):
+        with Server(silent) as server:
+            line = ["call", HOST, "ASKED.FIRST.NIL", "--types", "asked.x", "--port", str(server.port), "--udp"]
+            got, took = run(program, folder, [*line, "--timeout", "5"])
+        between = [after - before for before, after in zip(server.moments, server.moments[1:])]
+        well = got == (3, b"", b"no answer within 5 seconds\n") and 4.9 <= took <= 7
+        well = well and len(between) == 4 and all(0.9 <= it < 1.9 for it in between)
+        same = {it[:4] for it in server.calls}
+        xids |= same
+        yield "a call that is sent five times", well and len(same) == 1, (got, took, between, same)
+    yield "the xid of two calls", len(xids) == 2, xids
 
 
 def unheard_rows(program, folder):
@@ -132,6 +151,12 @@ def ping_rows(program, folder):
     with Server(replying(success(xid=1))) as server:
         got, took = run(program, folder, ["ping", HOST, "536870913.1", "--count", "3", "--port", str(server.port)])
     yield "ping --count 3", len(ONE_PING.findall(got[1])) == 3 and got[0] == 0 and 1.9 <= took <= 5, (got, took)
+    for over in ([], ["--udp"]):
+        with Server(slow) as server:
+            got, _ = run(program, folder, ["ping", HOST, "536870913.1", "--port", str(server.port), *over])
+        told = re.fullmatch(rb"536870913 1 answered in (\d+) microseconds\n", got[1])
+        well = got[0] == 0 and told and 500000 <= int(told[1]) < 5000000
+        yield f"ping {' '.join(over)} of a server that takes half a second", well, got
     for over in ([], ["--udp"]):
         with Server(silent) as server:
             line = ["ping", HOST, "536870913.1", "--timeout", "2", "--count", "2", "--port", str(server.port), *over]
