@@ -12,12 +12,12 @@ from refuse_use.called import HOST, XID, marked, success, words
 class Server:
     """Answers calls over TCP and UDP; `answer` gives what comes back for a call, a list of datagrams or of pieces."""
 
-    def __init__(self, answer, port=0):
+    def __init__(self, answer, port=0, host=HOST):
         self.answer, self.calls, self.moments, self.open = answer, [], [], True
-        self.stream = socket.create_server((HOST, port))
+        self.stream = socket.create_server((host, port))
         self.port = self.stream.getsockname()[1]
         self.datagrams = socket.socket(type=socket.SOCK_DGRAM)
-        self.datagrams.bind((HOST, self.port))
+        self.datagrams.bind((host, self.port))
         self.threads = [threading.Thread(target=it, daemon=True) for it in (self.accept, self.receive)]
         for it in self.threads:
             it.start()
@@ -29,7 +29,7 @@ class Server:
         self.open = False
         # (a datagram ends the wait for one, and with it what holds the port)
         with contextlib.suppress(OSError), socket.socket(type=socket.SOCK_DGRAM) as waking:
-            waking.sendto(b"", (HOST, self.port))
+            waking.sendto(b"", self.datagrams.getsockname())
         with contextlib.suppress(OSError):
             self.stream.shutdown(socket.SHUT_RDWR)
         for thread in self.threads:
