@@ -23,7 +23,7 @@ from refuse_use.answering import (
     trickle,
 )
 from refuse_use.called import ASKED, DECLARED, NOBODY, ONE_PING, PINGED, UNASKED, XID
-from refuse_use.called import call, call_words, run, success, words
+from refuse_use.called import call, call_words, opaque, run, success, words
 from refuse_use.recorded import GENERATED, RECORDED, SERVED
 from refuse_use.refusing import placed_rows, refused_pings, refused_rows
 
@@ -129,6 +129,18 @@ def unheard_rows(program, folder):
             yield f"ping of a port that nobody has {over}", got == (3, b"", b"socket fault\n") and took < 3, (got, took)
 
 
+def longest_rows(program, folder):
+    """The most bytes that arguments may have, 16777216, and four more."""
+    for more in (0, 4):
+        content = b"a" * (16777208 + more)
+        with Server(replying(success(words(9)))) as server:
+            line = call_words(server.port, ["ASKED.FIRST.TWO", "--timeout", "50"])
+            got, _ = run(program, folder, line, b'[1,"' + content + b'"]')
+        wanted = (2, b"", b"the arguments are too long\n") if more else (0, b"9\n", b"")
+        well = got == wanted and server.calls == ([] if more else [call(3, words(1) + opaque(content))])
+        yield f"arguments of {16777216 + more} bytes", well, (got, [len(it) for it in server.calls])
+
+
 def info_rows(program, folder):
     """'info' waits as long as is asked for, too."""
     got, took = run(program, folder, ["info", HOST, "1", "--timeout", "2"])
@@ -191,7 +203,7 @@ def call_rows(program, folder, heap):
     """The rows, each whether it is as it should be."""
     with open(f"{folder}/asked.x", "wb") as it:
         it.write(DECLARED)
-    for rows in (asked_rows, unasked_rows, hindered_rows, info_rows, ping_rows, recorded_rows):
+    for rows in (asked_rows, unasked_rows, longest_rows, hindered_rows, info_rows, ping_rows, recorded_rows):
         for name, is_well, told in rows(program, folder):
             print(f"oncrpc call, {name}: {'as it should' if is_well else told}", flush=True)
             yield bool(is_well)
