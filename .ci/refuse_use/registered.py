@@ -79,8 +79,8 @@ def lost_rows(program, folder):
 
 
 def placed_rows(program, folder):
-    """Of a name with addresses of IPv6 and of IPv4 those of IPv4 come first. The next is taken where there is no registry,
-    and over TCP where nobody has the port."""
+    """Of a name with addresses of IPv6 and of IPv4 those of IPv4 come first. The next is taken where there is no
+    registry, and over TCP where nobody has the port."""
     for name, host in (("first", HOST), ("second", SECOND)):
         for more in ([], ["--port", "111"], ["--udp"], ["--port", "111", "--udp"])[: 4 if host == HOST else 3]:
             with Server(registry((AT, None, None)), 111, host) as server:
