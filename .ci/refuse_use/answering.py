@@ -12,12 +12,12 @@ from refuse_use.called import HOST, XID, marked, success, words
 class Server:
     """Answers calls over TCP and UDP; `answer` gives what comes back for a call, a list of datagrams or of pieces."""
 
-    def __init__(self, answer, port=0):
-        self.answer, self.calls, self.open = answer, [], True
-        self.stream = socket.create_server((HOST, port))
+    def __init__(self, answer, port=0, host=HOST):
+        self.answer, self.calls, self.moments, self.open = answer, [], [], True
+        self.stream = socket.create_server((host, port))
         self.port = self.stream.getsockname()[1]
         self.datagrams = socket.socket(type=socket.SOCK_DGRAM)
-        self.datagrams.bind((HOST, self.port))
+        self.datagrams.bind((host, self.port))
         self.threads = [threading.Thread(target=it, daemon=True) for it in (self.accept, self.receive)]
         for it in self.threads:
             it.start()
@@ -29,7 +29,7 @@ class Server:
         self.open = False
         # (a datagram ends the wait for one, and with it what holds the port)
         with contextlib.suppress(OSError), socket.socket(type=socket.SOCK_DGRAM) as waking:
-            waking.sendto(b"", (HOST, self.port))
+            waking.sendto(b"", self.datagrams.getsockname())
         with contextlib.suppress(OSError):
             self.stream.shutdown(socket.SHUT_RDWR)
         for thread in self.threads:
@@ -73,6 +73,7 @@ class Server:
                 if not self.open:
                     return
                 self.calls.append(message)
+                self.moments.append(time.monotonic())
                 threading.Thread(target=self.reply, args=(message, peer), daemon=True).start()
 
     def reply(self, message, peer):
@@ -114,6 +115,12 @@ def silent(server, message, datagram):
     while server.open:
         time.sleep(0.05)
         yield b"" if not datagram else success(xid=XID + 1)
+
+
+def slow(server, message, datagram):
+    """The reply to a ping, after half a second."""
+    time.sleep(0.5)
+    return [success(xid=1) if datagram else marked(success(xid=1))]
 
 
 def greedy(server, message, datagram):

@@ -17,6 +17,7 @@ program ASKED { version FIRST {
     string ECHO(string) = 1;
     pair SWAP(pair) = 2;
     unsigned int TWO(int, string) = 3;
+    int PAIRS(pair, pair) = 4;
 } = 1; } = 536870913;
 """
 PROGRAM, VERSION = 536870913, 1
@@ -103,6 +104,22 @@ ASKED = [
         b"",
     ),
     (
+        ["ASKED.1.TWO", "--arguments", '[3,"\\"],b\\\\"]'],
+        call(3, words(3) + opaque(b'"],b\\')),
+        success(words(0)),
+        0,
+        b"0\n",
+        b"",
+    ),
+    (
+        ["ASKED.1.PAIRS", "--arguments", '[{"first":1,"second":"}"},\n{ "second": "", "first": 2 } ]'],
+        call(4, words(1) + opaque(b"}") + words(2) + opaque(b"")),
+        success(words(0)),
+        0,
+        b"0\n",
+        b"",
+    ),
+    (
         ["ASKED.FIRST.NIL", "--uid", "1000", "--gid", "100"],
         call(0, cred=auth_sys(b"", 1000, 100)),
         success(verf=words(2) + opaque(b"seen")),
@@ -169,6 +186,9 @@ UNASKED = [
     (["ASKED.FIRST.TWO", "--arguments", '{"a":1,"b":2}'], b"", 2, b"the arguments are no array of 2 items\n"),
     (["ASKED.FIRST.TWO"], b'[1,\n "a]"x]', 2, b"refused NotJson at 2:6\n"),
     (["ASKED.FIRST.TWO"], b'[{"a":[1,2]},\n "a"]', 2, b"refused WrongType at 1:2\n"),
+    (["ASKED.1.PAIRS"], b'[{"first":1,"second":""},\n {"first":1,\n"second":7}]', 2, b"refused WrongType at 3:10\n"),
+    (["ASKED.1.PAIRS"], b'[{"first":1,"second":""},]', 2, b"refused NotJson at 1:26\n"),
+    (["ASKED.1.PAIRS"], b"[1,2", 2, b"the arguments are no array of 2 items\n"),
     (["ASKED.FIRST.NIL", "--bytes", "6"], b"", 2, b"limits refused\n"),
     (["ASKED.FIRST.NIL", "--types", "no.x"], b"", 3, b"read fault\n"),
     (["ASKED.FIRST.NIL", "--uid", "1", "--gid", "1", "--gids", "1,x"], b"", 2, b"error: --gids wants"),

@@ -19,10 +19,11 @@ from refuse_use.answering import (
     other,
     replying,
     silent,
+    slow,
     trickle,
 )
 from refuse_use.called import ASKED, DECLARED, NOBODY, ONE_PING, PINGED, UNASKED, XID
-from refuse_use.called import call, call_words, run, success, words
+from refuse_use.called import call, call_words, opaque, run, success, words
 from refuse_use.recorded import GENERATED, RECORDED, SERVED
 from refuse_use.refusing import placed_rows, refused_pings, refused_rows
 
@@ -85,7 +86,25 @@ def hindered_rows(program, folder):
             got, took = run(program, folder, line)
         well = got == (0, b"{}\n", b"") and server.calls == [call(0)] * (3 if over else 1) and 0.9 <= took <= 6
         yield f"a server that is late {over}", well, (got, took, server.calls)
+    yield from unanswered_rows(program, folder)
     yield from unheard_rows(program, folder)
+
+
+def unanswered_rows(program, folder):
+    """A call by datagrams is sent again after each second, as long as there is time, with one xid; that of another run
+    is another."""
+    xids = set()
+    for _ in range(2):
+        with Server(silent) as server:
+            line = ["call", HOST, "ASKED.FIRST.NIL", "--types", "asked.x", "--port", str(server.port), "--udp"]
+            got, took = run(program, folder, [*line, "--timeout", "5"])
+        between = [after - before for before, after in zip(server.moments, server.moments[1:])]
+        well = got == (3, b"", b"no answer within 5 seconds\n") and 4.9 <= took <= 7
+        well = well and len(between) == 4 and all(0.9 <= it < 1.9 for it in between)
+        same = {it[:4] for it in server.calls}
+        xids |= same
+        yield "a call that is sent five times", well and len(same) == 1, (got, took, between, same)
+    yield "the xid of two calls", len(xids) == 2, xids
 
 
 def unheard_rows(program, folder):
@@ -110,6 +129,18 @@ def unheard_rows(program, folder):
             yield f"ping of a port that nobody has {over}", got == (3, b"", b"socket fault\n") and took < 3, (got, took)
 
 
+def longest_rows(program, folder):
+    """The most bytes that arguments may have, 16777216, and four more."""
+    for more in (0, 4):
+        content = b"a" * (16777208 + more)
+        with Server(replying(success(words(9)))) as server:
+            line = call_words(server.port, ["ASKED.FIRST.TWO", "--timeout", "50"])
+            got, _ = run(program, folder, line, b'[1,"' + content + b'"]')
+        wanted = (2, b"", b"the arguments are too long\n") if more else (0, b"9\n", b"")
+        well = got == wanted and server.calls == ([] if more else [call(3, words(1) + opaque(content))])
+        yield f"arguments of {16777216 + more} bytes", well, (got, [len(it) for it in server.calls])
+
+
 def info_rows(program, folder):
     """'info' waits as long as is asked for, too."""
     got, took = run(program, folder, ["info", HOST, "1", "--timeout", "2"])
@@ -132,6 +163,12 @@ def ping_rows(program, folder):
     with Server(replying(success(xid=1))) as server:
         got, took = run(program, folder, ["ping", HOST, "536870913.1", "--count", "3", "--port", str(server.port)])
     yield "ping --count 3", len(ONE_PING.findall(got[1])) == 3 and got[0] == 0 and 1.9 <= took <= 5, (got, took)
+    for over in ([], ["--udp"]):
+        with Server(slow) as server:
+            got, _ = run(program, folder, ["ping", HOST, "536870913.1", "--port", str(server.port), *over])
+        told = re.fullmatch(rb"536870913 1 answered in (\d+) microseconds\n", got[1])
+        well = got[0] == 0 and told and 500000 <= int(told[1]) < 5000000
+        yield f"ping {' '.join(over)} of a server that takes half a second", well, got
     for over in ([], ["--udp"]):
         with Server(silent) as server:
             line = ["ping", HOST, "536870913.1", "--timeout", "2", "--count", "2", "--port", str(server.port), *over]
@@ -166,7 +203,7 @@ def call_rows(program, folder, heap):
     """The rows, each whether it is as it should be."""
     with open(f"{folder}/asked.x", "wb") as it:
         it.write(DECLARED)
-    for rows in (asked_rows, unasked_rows, hindered_rows, info_rows, ping_rows, recorded_rows):
+    for rows in (asked_rows, unasked_rows, longest_rows, hindered_rows, info_rows, ping_rows, recorded_rows):
         for name, is_well, told in rows(program, folder):
             print(f"oncrpc call, {name}: {'as it should' if is_well else told}", flush=True)
             yield bool(is_well)

@@ -78,7 +78,7 @@ def unproved(folder):
     yield row("./oncrpc check --types none.x, which is not there", is_answer(got, 5, told, faults, 1), got)
     got = tree.run("./oncrpc")
     yield row("./oncrpc", is_answer(got, 5, output(b"unproved", b""), faults, 1), got)
-    for name in (b"info", b"serve"):
+    for name in (b"info", b"call", b"ping", b"serve"):
         got = tree.run(f"./oncrpc {name.decode()} 127.0.0.1 111")
         yield row(f"./oncrpc {name.decode()} of no proved program", is_answer(got, 3, b"", SOCKETS % name, 0), got)
         got = tree.run(f"./oncrpc {name.decode()} --help")

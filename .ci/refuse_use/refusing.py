@@ -72,7 +72,7 @@ def refused_rows(program, folder, heap):
     """Each growth, read and write of a call refused: of three rows from the first growth on, of each other from that on
     which comes once the declarations are read."""
     later = first_growth(program, folder, heap)
-    whole = [ASKED[7], ASKED[10], ASKED[14]]
+    whole = [ASKED[7], ASKED[10], ASKED[16]]
     for row in ASKED:
         more, _, reply = row[:3]
         for over in ([], ["--udp"]):

@@ -36,6 +36,9 @@ ANSWERS = [
     ((b"", b"", b""), [4, 3, 2], 1, b"", NO_ROW),
 ]
 CALL = ["call", HOST, "ASKED.FIRST.NIL", "--types", "asked.x"]
+# Two names and their addresses, of which the system has 127.0.0.1 before the other of IPv4.
+SECOND = "127.0.0.2"
+NAMES = f"::1 first\n{HOST} first\n::1 second\n{SECOND} second\n{HOST} second\n"
 
 
 def question(version, udp):
@@ -58,6 +61,32 @@ def registry(answers):
         return [told if datagram else marked(told)]
 
     return answer
+
+
+def losing(answers):
+    """The same, but that the first datagram is lost."""
+    answer = registry(answers)
+    return lambda server, message, datagram: [] if server.moments[1:] == [] else answer(server, message, datagram)
+
+
+def lost_rows(program, folder):
+    """Over UDP the registry is asked again, too."""
+    with Server(losing((AT, None, None)), 111) as server:
+        got, took = run(program, folder, [*CALL, "--udp"])
+    well = got == (0, b"{}\n", b"") and 0.9 <= took < 3
+    well = well and [it[4:] for it in server.calls[:2]] == [question(4, True)] * 2 and len(server.calls) == 3
+    yield "a registry whose first datagram is lost", well, (got, took, [it.hex() for it in server.calls])
+
+
+def placed_rows(program, folder):
+    """Of a name with addresses of IPv6 and of IPv4 those of IPv4 come first. The next is taken where there is no
+    registry, and over TCP where nobody has the port."""
+    for name, host in (("first", HOST), ("second", SECOND)):
+        for more in ([], ["--port", "111"], ["--udp"], ["--port", "111", "--udp"])[: 4 if host == HOST else 3]:
+            with Server(registry((AT, None, None)), 111, host) as server:
+                got, took = run(program, folder, ["call", name, *CALL[2:], *more])
+            well = got == (0, b"{}\n", b"") and took < 3 and len(server.calls) == (1 if "--port" in more else 2)
+            yield f"a name whose {name} address is called {' '.join(more)}", well, (got, took)
 
 
 def answered_rows(program, folder):
@@ -116,14 +145,18 @@ def refused_rows(program, folder, heap):
 
 def registered_rows(program, heap):
     """The rows of this script in a network of its own, each whether it is as it should be."""
-    inside = 'ip link set lo up && exec "$@"'
-    own = ["unshare", "-rn", "sh", "-c", inside, "own"]
-    able = all(shutil.which(it) for it in ("unshare", "ip"))
-    if not able or subprocess.run([*own, "true"], capture_output=True, check=False).returncode:
-        print("a network of its own is not there: the rows of a registry at port 111 are skipped")
-        return
-    words_of_it = [sys.executable, os.path.realpath(__file__), program, heap or ""]
-    said = subprocess.run([*own, *words_of_it], capture_output=True, text=True, timeout=1800, check=False)
+    inside = 'ip link set lo up && mount --bind "$1" /etc/hosts && shift && exec "$@"'
+    own = ["unshare", "-rnm", "--propagation", "private", "sh", "-c", inside, "own"]
+    able = all(shutil.which(it) for it in ("unshare", "ip", "mount"))
+    with tempfile.NamedTemporaryFile("w") as hosts:
+        hosts.write(NAMES)
+        hosts.flush()
+        own.append(hosts.name)
+        if not able or subprocess.run([*own, "true"], capture_output=True, check=False).returncode:
+            print("a network of its own is not there: the rows of a registry at port 111 are skipped")
+            return
+        words_of_it = [sys.executable, os.path.realpath(__file__), program, heap or ""]
+        said = subprocess.run([*own, *words_of_it], capture_output=True, text=True, timeout=1800, check=False)
     print(said.stdout + said.stderr, end="")
     told = re.search(r"^(\d+) well of (\d+)$", said.stdout, re.M)
     well, count = (int(told[1]), int(told[2])) if told else (0, 1)
@@ -136,7 +169,8 @@ def main(program, heap):
     with tempfile.TemporaryDirectory() as folder:
         with open(f"{folder}/asked.x", "wb") as it:
             it.write(DECLARED)
-        for rows in (answered_rows, pinged_rows, hindered_rows, lambda *of: refused_rows(*of, heap)):
+        swept_rows = lambda *of: refused_rows(*of, heap)
+        for rows in (answered_rows, lost_rows, placed_rows, pinged_rows, hindered_rows, swept_rows):
             for name, is_well, told in rows(program, folder):
                 print(f"oncrpc call, {name}: {'as it should' if is_well else told}", flush=True)
                 well.append(bool(is_well))
