@@ -16,6 +16,8 @@ use Rattle.xdr_types.specs.Tree.{Tree, Head, depth}
 use Rattle.xdr_types.specs.Fits.{is_tag_of, part_of}
 use Rattle.xdr_types.specs.Spelling.{bytes_of}
 use Rattle.xdr_types.specs.Within.{Bounds}
+use Rattle.xdr_types.specs.Outcome as outcome
+use Rattle.xdr_types.specs.Outcome.{Ending, Outcome}
 use Rattle.xdr_json.specs.Mapping.{case_key, hex_key}
 use Rattle.xdr_json.specs.Spelled.{Spells, is_tag_json, is_group, count, has_key, at_key, has_each, arm_keys}
 use Rattle.xdr_json.specs.Text.{deepest, json_text}
@@ -269,12 +271,18 @@ pub record IsBeyond (kinds : List KindView) (place : ℕ) (text : List ℕ) (Pas
   pub spells : Spells kinds place tree value
   pub passes : Passes value
 
+-- the value's bytes, read from their front, meet this limit and no other before it (RFC 4506 section 4; own)
+abbrev pub Meets : List KindView → (place : ℕ) → Bounds → (ending : ℕ → Ending) → Tree → Type 0
+Meets kinds place limits ending t = (p : ℕ) × Outcome kinds place limits (bytes_of kinds place t) (ending p)
+
 -- what each reason says of the text
 abbrev pub Tells : List KindView → (place : ℕ) → Bounds → (text : List ℕ) → JsonReason → Type 0
 Tells kinds place limits text why.NoMemory = ⊤
 Tells kinds place limits text why.NotJson = IsNoJson text
 Tells kinds place limits text why.TooDeep =
-    (json_text text ≡ None) ⊎ IsBeyond kinds place text (λ t. limits.depth < depth t)
+    (json_text text ≡ None)
+    ⊎ IsBeyond kinds place text (λ t. (limits.depth < depth t) × Meets kinds place limits outcome.TooDeep t)
 Tells kinds place limits text why.TooLarge =
-    IsBeyond kinds place text (λ t. limits.bytes < length (bytes_of kinds place t))
+    IsBeyond kinds place text (λ t. (limits.bytes < length (bytes_of kinds place t))
+    × Meets kinds place limits outcome.TooLarge t)
 Tells kinds place limits text w = IsWrongText kinds place text w
