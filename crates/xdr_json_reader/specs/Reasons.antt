@@ -236,10 +236,6 @@ pub data Fault (kinds : List KindView) (Passes : Due → Type 0) : List Due → 
 abbrev pub IsRight : List KindView → Due → Type 0
 IsRight kinds d = (t : Tree) × Spells kinds d.0 d.1 t
 
--- a fault of a JSON value for a kind
-abbrev pub IsFault : List KindView → Due → JsonReason → Type 0
-IsFault kinds root w = Fault kinds (λ d. ⊤) (root ∷ []) w
-
 -- the first one: each value that stands before it is right
 abbrev pub IsFirst : List KindView → Due → JsonReason → Type 0
 IsFirst kinds root w = Fault kinds (IsRight kinds) (root ∷ []) w
