@@ -23,7 +23,8 @@ use xdr_io::{Sink, Source, write_whole};
 /// before any input is read. A device that fails or too many reads are 3, an allocation failure is 4. The output gets
 /// the bytes of the value alone: nothing where the status is not 0, but what came before a write that failed.
 ///
-/// Memory is of the size of the text. Each level of the value takes stack (`xdr_codec::encode`).
+/// Memory is of the size of the text and of the declarations. Each level of the value takes stack
+/// (`xdr_codec::encode`).
 #[tactic(auto, using(crate::proofs::Telling::told_of))]
 pub fn encode_over<P: Opener, I: Source, O: Sink, F: Sink>(
     alloc: Global,

@@ -14,6 +14,7 @@ use Rattle.xdr_laws.specs.Laws.{IsRefusal}
 use Rattle.xdr_laws.proofs.Refused.{refused_for_good}
 use Rattle.xdr_codec.proofs.Outcomes.{pending_none}
 use Rattle.xdr_stream.specs.Finish.{EndsWith}
+use Rattle.xdr_json_reader.specs.Reasons.{Meets}
 use Rattle.xdr_stream.specs.Sees.{Ends}
 use Rattle.xdr_stream.specs.declared.fault.DecodeFault.{DecodeFault}
 use Rattle.xdr_stream.specs.declared.fault.Reason.{Reason}
@@ -46,11 +47,13 @@ raised_reached kinds kind l m b p low small o = record {
 
 -- ---- a value that is the whole of the bytes
 
--- it passes the limit that the reason names
+-- it passes the limit that the reason names, which its bytes meet first; there is no other reason
 abbrev pub Passed : List KindView → (kind : ℕ) → Bounds → Tree → Reason → Type 0
-Passed kinds kind l t reason.TooDeep = l.depth < depth t
+Passed kinds kind l t reason.TooDeep = (l.depth < depth t) × Meets kinds kind l outcome.TooDeep t
+Passed kinds kind l t reason.TooLarge =
+    (l.bytes < length (bytes_of kinds kind t)) × Meets kinds kind l outcome.TooLarge t
 Passed kinds kind l t reason.NoMemory = Unit {0}
-Passed kinds kind l t _ = l.bytes < length (bytes_of kinds kind t)
+Passed kinds kind l t _ = ⊥
 
 module _ (kinds : List KindView) (kind : ℕ) (l : Bounds) (units : l.bytes % 4 ≡ 0) (b : List ℕ) (t : Tree)
     (fits : Fits kinds kind t) (same : bytes_of kinds kind t ≡ b) where
@@ -102,23 +105,34 @@ module _ (kinds : List KindView) (kind : ℕ) (l : Bounds) (units : l.bytes % 4 
         o.3,
       ))
 
-  pub is_broken : (why : outcome.Why) (p : ℕ) → Outcome kinds kind l b (outcome.Broken why p)
-      → l.bytes < length (bytes_of kinds kind t)
-  is_broken why p o =
-      large_by (refused_deep (outcome.Broken why p) tt (
-        reached_deep p (λ r h u. (o.0.before r h u).small) o.0,
-        (λ d. o.1 (shallower kinds kind l deep (take p b) (omega arith) d)),
-        o.2,
-        o.3,
-        o.4,
-      ))
+  -- room for the value's depth and for all of its bytes
+  abbrev wide : Bounds
+  wide = record { depth = l.depth + depth t; bytes = 4 * (length b + 1) }
 
-  pub is_pending : Outcome kinds kind l b outcome.Pending → l.bytes < length (bytes_of kinds kind t)
+  all_there : length (bytes_of kinds kind t) ≤ 4 * (length b + 1)
+  all_there = omega (arith, ap length same)
+
+  wide_units : 4 * (length b + 1) % 4 ≡ 0
+  wide_units = omega arith
+
+  pub is_broken : (why : outcome.Why) (p : ℕ) → Outcome kinds kind l b (outcome.Broken why p) → ⊥
+  is_broken why p o =
+      refused_for_good kinds kind wide b (outcome.Broken why p) wide_units tt (
+        raised_reached kinds kind l wide b p (omega arith) (λ r h u large. omega (arith, h, large, o.0.within)) o.0,
+        (λ d. o.1 (shallower kinds kind l wide (take p b) (omega arith) d)),
+        o.2,
+        (λ large. omega (arith, large, o.0.within)),
+        o.4,
+      ) t [] [] (fits, (omega arith, all_there)) whole
+
+  pub is_pending : Outcome kinds kind l b outcome.Pending → ⊥
   is_pending o =
-      large_by (λ low.
-      pending_none kinds kind deep units b
-      (λ p u h. raised_quiet kinds kind l deep b p (omega arith) (o p u h).small (o p u h)) t []
-      (fits, (omega arith, low)) (append-nil (bytes_of kinds kind t) ∙ same))
+      pending_none kinds kind wide wide_units b
+      (λ p u h. raised_quiet kinds kind l wide b p (omega arith) (λ large. omega (arith, large, h)) (o p u h)) t []
+      (fits, (omega arith, all_there)) (append-nil (bytes_of kinds kind t) ∙ same)
+
+  meets : (ending : ℕ → Ending) (p : ℕ) → Outcome kinds kind l b (ending p) → Meets kinds kind l ending t
+  meets ending p o = (p, subst (λ (x : List ℕ). Outcome kinds kind l x (ending p)) (sym same) o)
 
   abbrev IsCut : Reason → Type 0
   IsCut reason.Truncated = Unit {0}
@@ -143,8 +157,12 @@ module _ (kinds : List KindView) (kind : ℕ) (l : Bounds) (units : l.bytes % 4 
       is_broken outcome.too_long p (here reason.TooLong p (fails (not_cut reason.TooLong (λ x. x))).0)
   by_case reason.BadPadding p cut fails =
       is_broken outcome.bad_padding p (here reason.BadPadding p (fails (not_cut reason.BadPadding (λ x. x))).0)
-  by_case reason.TooDeep p cut fails = is_deep p (here reason.TooDeep p (fails (not_cut reason.TooDeep (λ x. x))).0)
-  by_case reason.TooLarge p cut fails = is_large p (here reason.TooLarge p (fails (not_cut reason.TooLarge (λ x. x))).0)
+  by_case reason.TooDeep p cut fails =
+      let o = here reason.TooDeep p (fails (not_cut reason.TooDeep (λ x. x))).0 in
+      (is_deep p o, meets outcome.TooDeep p o)
+  by_case reason.TooLarge p cut fails =
+      let o = here reason.TooLarge p (fails (not_cut reason.TooLarge (λ x. x))).0 in
+      (is_large p o, meets outcome.TooLarge p o)
   by_case reason.Truncated p cut fails = is_pending (cut refl).0
   by_case reason.NoMemory p cut fails = tt
 

@@ -14,6 +14,7 @@ use Rattle.xdr_types.specs.Kinds.{KindView, Part, Branch, kind_at}
 use Rattle.xdr_types.specs.Tree.{Tree, depth}
 use Rattle.xdr_types.specs.Fits.{Fits}
 use Rattle.xdr_types.specs.Within.{Bounds}
+use Rattle.xdr_types.specs.Outcome as outcome
 use Rattle.xdr_types.specs.Spelling.{bytes_of}
 use Rattle.xdr_stream.specs.Finish.{EndsWith}
 use Rattle.xdr_stream.specs.declared.fault.DecodeFault.{DecodeFault}
@@ -25,7 +26,7 @@ use Rattle.xdr_json.specs.Text.{deepest, json_text}
 use Rattle.xdr_json_reader.specs.Reasons.{is_mark, numeral_reason, number_reason, name_reason, digits_reason}
 use Rattle.xdr_json_reader.specs.Reasons.{hex_reason, text_reason, list_reason, void_reason, tag_reason, form_reason}
 use Rattle.xdr_json_reader.specs.Reasons.{IsOfMembers, ChoiceTells, no_case, bad_case, no_arm, bad_arm, NodeTells}
-use Rattle.xdr_json_reader.specs.Reasons.{IsBeyond, nested_text, Tells, IsFirst, IsRight, Fault, kind_under}
+use Rattle.xdr_json_reader.specs.Reasons.{IsBeyond, Meets, nested_text, Tells, IsFirst, IsRight, Fault, kind_under}
 use Rattle.xdr_json_reader.specs.Reasons.{key_reason, refused_key, front, values, behind, here, in_part, lacks}
 use Rattle.xdr_json_reader.specs.Reasons.{in_member, on_key}
 use Rattle.xdr_json_reader.specs.Nodes.{Due, inside}
@@ -211,6 +212,10 @@ module _ (kinds : List KindView) (place : ℕ) (limits : Bounds) (text : List �
 
       by_case : (v : Reason) (t : Tree) → spells kinds place j t ≡ true → Passed kinds place limits t v
           → Tells kinds place limits text (limit_reason v)
-      by_case reason.TooDeep t s p = inr (beyond (λ x. limits.depth < depth x) t s p)
+      by_case reason.TooDeep t s p =
+          inr (beyond (λ x. (limits.depth < depth x) × Meets kinds place limits outcome.TooDeep x) t s p)
       by_case reason.NoMemory t s p = tt
-      by_case _ t s p = beyond (λ x. limits.bytes < length (bytes_of kinds place x)) t s p
+      by_case reason.TooLarge t s p =
+          beyond (λ x. (limits.bytes < length (bytes_of kinds place x)) × Meets kinds place limits outcome.TooLarge x)
+          t s p
+      by_case _ t s p = absurd p

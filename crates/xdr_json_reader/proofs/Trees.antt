@@ -1,17 +1,13 @@
 -- All nodes of a tree, one after another.
 use Rattle.std.proofs.Common.{◌≡◌, ℕ, ◌<◌, List, [], ◌∷◌, ◌++◌, length, refl, ap, sym, ◌∙◌}
-use Rattle.std.proofs.Common.{subst, arith, inl, inr, Result, Ok, Err, OnOk, is_err, Bool, false}
+use Rattle.std.proofs.Common.{subst, arith, Result, Ok, Err, OnOk, is_err, Bool, false}
 use Rattle.std.proofs.lemmas.Bool.{true≢false}
-use Rattle.std.proofs.lemmas.List.Elements.{Contains-append_cases, Contains-append_right, Contains-push_cases}
-use Rattle.std.specs.Prelude.{Contains}
 use Rattle.xdr_types.specs.Kinds.{KindView, Lists, kind_at}
 use Rattle.xdr_types.specs.Faults.{IsWellFormed}
 use Rattle.xdr_json_reader.specs.Tape.{json_in}
 use Rattle.xdr_json_reader.specs.Private.Entries.{dues, due_of}
-use Rattle.xdr_json_reader.specs.Nodes.{Due, ShowsNone, inside, Within, itself, part}
-use Rattle.xdr_json_reader.specs.Reasons.{Wrong, IsWrongWithin}
-use Rattle.xdr_json_reader.specs.Private.Pending.{Took, Means, Stands, AreWithin, work}
-use Rattle.xdr_json_reader.specs.declared.fault.JsonReason.{JsonReason}
+use Rattle.xdr_json_reader.specs.Nodes.{Due, ShowsNone}
+use Rattle.xdr_json_reader.specs.Private.Pending.{Took, Means, Stands, work}
 use Rattle.xdr_json_reader.specs.declared.reading_entry.Entry.{Entry}
 use Rattle.xdr_json.proofs.Apart.{are_apart}
 use Rattle.xdr_json_reader.proofs.Fields.{dues_push}
@@ -60,51 +56,11 @@ pub tree_ends : (kinds : List KindView) (root : List Due) (out : List ℕ) (es :
 tree_ends kinds root out es is stands =
     stands_end kinds root out (subst (λ (ds : List Entry). Stands kinds root out (dues ds)) is stands)
 
--- ---- what is due lies within the root
-
 -- the root alone was pushed
 pub first_due : {A E : Type 0} (r : Result A E) (b : Bool) (d : Due) (old new : List Entry) → b ≡ is_err r → b ≡ false
     → old ≡ [] → OnOk r (dues new ≡ d ∷ dues old) → dues new ≡ d ∷ []
 first_due (Ok x) b d old new e f none h = h ∙ ap (λ (es : List Entry). d ∷ dues es) none
 first_due (Err x) b d old new e f none h = absurd (true≢false (sym e ∙ f))
-
-pub within_starts : (kinds : List KindView) (root : Due) (due : List Due) → due ≡ root ∷ [] → AreWithin kinds root due
-within_starts kinds root due e =
-    subst (λ (ds : List Due). AreWithin kinds root ds) (sym e)
-    (λ d c. subst (λ (x : Due). Within kinds root x) (only d c) itself)
-  where
-    only : (d : Due) → Contains (root ∷ []) d → root ≡ d
-    only d c = elim (Contains-push_cases [] root d c) [ inl n ↦ absurd (omega (arith, n.1)) | inr e ↦ e ]
-
-front_within : (kinds : List KindView) (root : Due) (es rest : List Entry) (e : Entry) → es ≡ rest ++ e ∷ []
-    → AreWithin kinds root (dues es) → AreWithin kinds root (due_of e ∷ dues rest)
-front_within kinds root es rest e is =
-    subst (λ (ds : List Due). AreWithin kinds root ds) (ap dues is ∙ dues_push rest e)
-
-first_within : (kinds : List KindView) (root d : Due) (ds : List Due) → AreWithin kinds root (d ∷ ds)
-    → Within kinds root d
-first_within kinds root d ds all = all d (0, omega arith, refl)
-
-pub within_goes_on : (kinds : List KindView) (root : Due) (out new : List ℕ) (es rest : List Entry) (e : Entry)
-    (next : List Due) → es ≡ rest ++ e ∷ [] → AreWithin kinds root (dues es)
-    → Took kinds (kind_at kinds e.kind.place) (json_in e.node.now) out new (dues rest) next → AreWithin kinds root next
-within_goes_on kinds root out new es rest e next is all t =
-    let front = front_within kinds root es rest e is all in
-    subst (λ (ds : List Due). AreWithin kinds root ds) (sym t.parts)
-    (λ d c.
-    elim (Contains-append_cases (inside kinds (due_of e) t.head) (dues rest) d c) [
-      | inl p ↦ part (due_of e) d t.head (first_within kinds root (due_of e) (dues rest) front) t.shows p
-      | inr q ↦ front d (Contains-append_right (due_of e ∷ []) (dues rest) d q)
-    ])
-
-pub wrong_within : (kinds : List KindView) (root : Due) (es rest : List Entry) (e : Entry) (w : JsonReason)
-    → es ≡ rest ++ e ∷ [] → AreWithin kinds root (dues es)
-    → Wrong kinds (kind_at kinds e.kind.place) (json_in e.node.now) w → IsWrongWithin kinds root w
-wrong_within kinds root es rest e w is all wrong = record {
-  node = due_of e;
-  within = first_within kinds root (due_of e) (dues rest) (front_within kinds root es rest e is all);
-  wrong = wrong;
-}
 
 pub no_items : {A : Type 0} (xs : List A) → length xs ≡ 0 → xs ≡ []
 no_items [] e = refl

@@ -1,5 +1,5 @@
 -- A JSON value for a kind, and the JSON values of its parts (RFC 4506 section 4; own).
-use Rattle.std.specs.Prelude.{◌≡◌, ℕ, List, [], ◌∷◌, true, Contains}
+use Rattle.std.specs.Prelude.{◌≡◌, ℕ, List, [], ◌∷◌, true}
 use Rattle.json.specs.Json.{Json}
 use Rattle.xdr_types.specs.Kinds.{KindView, Part, kind_at}
 use Rattle.xdr_types.specs.Tree.{Head}
@@ -27,9 +27,3 @@ ShowsNone kinds f j = (h : Head) → Shows kinds f j h → ⊥
 -- what is due for the parts of a node
 abbrev pub inside : List KindView → Due → Head → List Due
 inside kinds d h = each (parts (kind_at kinds d.0) h) (under kinds (kind_at kinds d.0) h d.1)
-
--- a JSON value for a kind is the root, or it is one of the parts of another within the root
-pub data Within (kinds : List KindView) (root : Due) : Due → Type 0 where
-  itself : Within kinds root root
-  part : (outer d : Due) (h : Head) → Within kinds root outer → Shows kinds (kind_at kinds outer.0) outer.1 h
-      → Contains (inside kinds outer h) d → Within kinds root d

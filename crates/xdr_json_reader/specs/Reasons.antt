@@ -16,10 +16,12 @@ use Rattle.xdr_types.specs.Tree.{Tree, Head, depth}
 use Rattle.xdr_types.specs.Fits.{is_tag_of, part_of}
 use Rattle.xdr_types.specs.Spelling.{bytes_of}
 use Rattle.xdr_types.specs.Within.{Bounds}
+use Rattle.xdr_types.specs.Outcome as outcome
+use Rattle.xdr_types.specs.Outcome.{Ending, Outcome}
 use Rattle.xdr_json.specs.Mapping.{case_key, hex_key}
 use Rattle.xdr_json.specs.Spelled.{Spells, is_tag_json, is_group, count, has_key, at_key, has_each, arm_keys}
 use Rattle.xdr_json.specs.Text.{deepest, json_text}
-use Rattle.xdr_json_reader.specs.Nodes.{Due, Shows, ShowsNone, inside, Within}
+use Rattle.xdr_json_reader.specs.Nodes.{Due, Shows, ShowsNone, inside}
 use Rattle.xdr_json_reader.specs.declared.fault.JsonReason.{JsonReason}
 use Rattle.xdr_json_reader.specs.declared.fault.JsonReason.TheVariants as why
 
@@ -112,7 +114,7 @@ pub record TellsTag (f : KindView) (ms : Members) (z : ℤ) : Type 0 where
   pub shown : is_tag_json f z (at_key ms case_key) ≡ true
 
 -- the members of a union (RFC 4506 section 4.15), the first that holds: no discriminant, one that is none of its kind,
--- one without an arm, and then the members beside it
+-- one without an arm, and then the members beside it, of which `Fault` below says which one
 pub data ChoiceTells (kinds : List KindView) (f : KindView) (arms : List Branch) (other : Option Part) (ms : Members)
     : JsonReason → Type 0 where
   no_case : has_key ms case_key ≡ false → ChoiceTells kinds f arms other ms why.MissingMember
@@ -123,7 +125,8 @@ pub data ChoiceTells (kinds : List KindView) (f : KindView) (arms : List Branch)
   bad_arm : has_key ms case_key ≡ true → (z : ℤ) → TellsTag f ms z → (p : Part) → part_of arms other z ≡ Some p
       → has_arm_alone kinds p ms ≡ false → (w : JsonReason) → IsOfMembers w → ChoiceTells kinds f arms other ms w
 
--- the reason for a node, by its kind
+-- the reason for a node, by its kind. Of an object whose members are wanted by name it is one of three; `Fault` below
+-- says which, and never tells such a node by this
 abbrev pub NodeTells : List KindView → KindView → Json → JsonReason → Type 0
 NodeTells kinds (xdr.structure fields) (json.object ms) w = IsOfMembers w
 NodeTells kinds (xdr.choice tag arms other) (json.object ms) w = ChoiceTells kinds (kind_at kinds tag) arms other ms w
@@ -133,12 +136,6 @@ NodeTells kinds f j w = w ≡ form_reason f j
 pub record Wrong (kinds : List KindView) (f : KindView) (j : Json) (w : JsonReason) : Type 0 where
   pub none : ShowsNone kinds f j
   pub tells : NodeTells kinds f j w
-
--- somewhere within the root
-pub record IsWrongWithin (kinds : List KindView) (root : Due) (w : JsonReason) : Type 0 where
-  pub node : Due
-  pub within : Within kinds root node
-  pub wrong : Wrong kinds (kind_at kinds node.0) node.1 w
 
 -- ---- the first fault, in the order of the text
 
@@ -239,10 +236,6 @@ pub data Fault (kinds : List KindView) (Passes : Due → Type 0) : List Due → 
 abbrev pub IsRight : List KindView → Due → Type 0
 IsRight kinds d = (t : Tree) × Spells kinds d.0 d.1 t
 
--- a fault of a JSON value for a kind
-abbrev pub IsFault : List KindView → Due → JsonReason → Type 0
-IsFault kinds root w = Fault kinds (λ d. ⊤) (root ∷ []) w
-
 -- the first one: each value that stands before it is right
 abbrev pub IsFirst : List KindView → Due → JsonReason → Type 0
 IsFirst kinds root w = Fault kinds (IsRight kinds) (root ∷ []) w
@@ -274,12 +267,18 @@ pub record IsBeyond (kinds : List KindView) (place : ℕ) (text : List ℕ) (Pas
   pub spells : Spells kinds place tree value
   pub passes : Passes value
 
+-- the value's bytes, read from their front, meet this limit and no other before it (RFC 4506 section 4; own)
+abbrev pub Meets : List KindView → (place : ℕ) → Bounds → (ending : ℕ → Ending) → Tree → Type 0
+Meets kinds place limits ending t = (p : ℕ) × Outcome kinds place limits (bytes_of kinds place t) (ending p)
+
 -- what each reason says of the text
 abbrev pub Tells : List KindView → (place : ℕ) → Bounds → (text : List ℕ) → JsonReason → Type 0
 Tells kinds place limits text why.NoMemory = ⊤
 Tells kinds place limits text why.NotJson = IsNoJson text
 Tells kinds place limits text why.TooDeep =
-    (json_text text ≡ None) ⊎ IsBeyond kinds place text (λ t. limits.depth < depth t)
+    (json_text text ≡ None)
+    ⊎ IsBeyond kinds place text (λ t. (limits.depth < depth t) × Meets kinds place limits outcome.TooDeep t)
 Tells kinds place limits text why.TooLarge =
-    IsBeyond kinds place text (λ t. limits.bytes < length (bytes_of kinds place t))
+    IsBeyond kinds place text (λ t. (limits.bytes < length (bytes_of kinds place t))
+    × Meets kinds place limits outcome.TooLarge t)
 Tells kinds place limits text w = IsWrongText kinds place text w

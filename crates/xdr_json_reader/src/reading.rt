@@ -29,10 +29,11 @@ use xdr_types::{KindId, Limits, Schema, Value};
 ///
 /// Of several faults the first in the order of the text is told. Text that is no JSON comes before all others, and the
 /// limits on a value come behind them, at the text's end. That a text that is no JSON is `TooDeep` only beyond 4096
-/// open brackets is tested, and no clause says it. So is the place, which is where the refused value or key begins.
+/// open brackets is tested, and no clause says it. So is the place, which is where the refused value or key begins. Of
+/// both limits the one is told that the value's bytes meet first.
 ///
 /// No call recurses, whatever the text; the drop of what was read does, one level a call, at most 4096. Memory is of
-/// the size of the text, and nothing is reserved by a declared count.
+/// the size of the text and of the declarations, and nothing is reserved by a declared count.
 pub fn read_json(
     alloc: Global,
     schema: &Schema,

@@ -1,5 +1,5 @@
 -- The nodes that are still to be read, each for a kind, and the bytes that values for them have.
-use Rattle.std.specs.Prelude.{◌≡◌, ◌⊎◌, ℕ, ◌+◌, ◌*◌, List, [], ◌∷◌, ◌++◌, Result, MatchResult, Vec, Contains}
+use Rattle.std.specs.Prelude.{◌≡◌, ◌⊎◌, ℕ, ◌+◌, ◌*◌, List, [], ◌∷◌, ◌++◌, Result, MatchResult, Vec}
 use Rattle.std.specs.declared.alloc.Global.{Global}
 use Rattle.xdr_json_reader.specs.declared.fault.JsonFault.{JsonFault}
 use Rattle.xdr_json_reader.specs.declared.fault.JsonReason.TheVariants.{NoMemory}
@@ -11,8 +11,7 @@ use Rattle.xdr_types.specs.Tree.{Head}
 use Rattle.xdr_types.specs.Fits.{parts}
 use Rattle.xdr_types.specs.Spelling.{own}
 use Rattle.xdr_json.specs.Spelled.{under}
-use Rattle.xdr_json_reader.specs.Nodes.{Due, each, Shows, Within}
-use Rattle.xdr_json_reader.specs.Reasons.{IsWrongWithin}
+use Rattle.xdr_json_reader.specs.Nodes.{Due, each, Shows}
 
 -- the bytes are those of values for all that is due, one after another
 pub data Means (kinds : List KindView) : List Due → List ℕ → Type 0 where
@@ -33,10 +32,6 @@ pub record Took (kinds : List KindView) (f : KindView) (j : Json) (out new : Lis
   pub shows : Shows kinds f j head
   pub bytes : new ≡ out ++ own f head
   pub parts : next ≡ each (parts f head) (under kinds f head j) ++ due
-
--- each of what is due is within the root
-abbrev pub AreWithin : List KindView → Due → List Due → Type 0
-AreWithin kinds root due = (d : Due) → Contains due d → Within kinds root d
 
 -- ---- what is left of the work
 
@@ -68,9 +63,8 @@ abbrev pub work : List KindView → List Due → ℕ
 work kinds [] = 0
 work kinds (d ∷ ds) = (2 * size d.1 + is_optional (kind_at kinds d.0)) + work kinds ds
 
--- the bytes are those that the root stands for, and no others are; or memory was refused, or it stands for none since
--- a value within it is wrong
+-- the bytes are those that the root stands for, and no others are; or memory was refused, or it stands for none
 abbrev pub BytesRead : List KindView → Due → Result (Vec ℕ Global) JsonFault → Type 0
 BytesRead kinds root r =
     MatchResult r (λ v. Means kinds (root ∷ []) v.items × ((bs : List ℕ) → Means kinds (root ∷ []) bs → bs ≡ v.items))
-    (λ f. (f.why ≡ NoMemory) ⊎ (((bs : List ℕ) → Means kinds (root ∷ []) bs → ⊥) × IsWrongWithin kinds root f.why))
+    (λ f. (f.why ≡ NoMemory) ⊎ ((bs : List ℕ) → Means kinds (root ∷ []) bs → ⊥))

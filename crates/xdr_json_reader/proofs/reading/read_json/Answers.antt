@@ -39,7 +39,7 @@ returns-in-Err-bytes_in-clause-refused c =
       | inl m ↦ inl (c.first_fault-fault.ensures.memory m)
       | inr n ↦
           inr (no_bytes c.args.schema.now.kinds c.args.kind.place c.args.limits c.args.text.now
-          (json_in c.in-Ok-read_tree.tree) e n.0)
+          (json_in c.in-Ok-read_tree.tree) e n)
     ]
 
 pub returns-clause-refused : goal.returns-clause-refused
@@ -100,7 +100,7 @@ returns-in-Err-bytes_in-clause-why c =
         | inl m ↦ no_memory m
         | inr f ↦ elim f [
           | inl first ↦ tells_first kinds place c.args.limits c.args.text.now j w c.in-Ok.ensures.cases.1 e first
-          | inr right ↦ absurd (n.0 (bytes_of kinds place right.0) (root_means kinds place j right.0 right.1))
+          | inr right ↦ absurd (n (bytes_of kinds place right.0) (root_means kinds place j right.0 right.1))
         ]
       ]
     ]

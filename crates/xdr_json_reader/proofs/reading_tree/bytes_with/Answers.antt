@@ -4,7 +4,7 @@ use Rattle.xdr_json_reader.specs.Private.Entries.{dues}
 use Rattle.xdr_json_reader.specs.Nodes.{Due}
 use Rattle.xdr_json_reader.proofs.Groups.{not_some}
 use Rattle.xdr_json_reader.proofs.Trees.{tree_goes_on, tree_shrinks, tree_refused, tree_ends, no_items}
-use Rattle.xdr_json_reader.proofs.Trees.{within_goes_on, wrong_within, tree_starts, within_starts, first_due}
+use Rattle.xdr_json_reader.proofs.Trees.{tree_starts, first_due}
 use Rattle.xdr_json_reader.proofs.Tables.{no_tables}
 use Rattle.xdr_json_reader.proofs.reading_tree.bytes_with.Goals as goal
 
@@ -18,7 +18,6 @@ loop-next-init c =
       tree_starts kinds ((c.args.kind.place, json_in c.args.tree.now) ∷ []) (dues due) c.new-out.result.items
           c.new-out.ensures.items is,
       no_tables kinds c.new-tables.result c.new-tables.ensures.empty,
-      within_starts kinds (c.args.kind.place, json_in c.args.tree.now) (dues due) is,
     )
 
 pub loop-next-smaller : goal.loop-next-smaller
@@ -34,9 +33,6 @@ loop-next-preserved c =
           c.read_node.new.out.items c.loop-next.due.items c.pop.new.self.items c.in-Some.next
           (dues c.read_node.new.due.items) c.in-Some.ensures.items c.loop-next.invariant.0 c.in-Ok.ensures,
       c.note_names.ensures,
-      within_goes_on c.args.schema.now.kinds (c.args.kind.place, json_in c.args.tree.now) c.loop-next.out.items
-          c.read_node.new.out.items c.loop-next.due.items c.pop.new.self.items c.in-Some.next
-          (dues c.read_node.new.due.items) c.in-Some.ensures.items c.loop-next.invariant.2 c.in-Ok.ensures,
     )
 
 pub returns-in-Err : goal.returns-in-Err
@@ -45,13 +41,8 @@ returns-in-Err c =
     elim c.in-Err.ensures [
       | inl m ↦ inl m
       | inr n ↦
-          inr (
-            tree_refused c.args.schema.now.kinds root c.loop-next.out.items c.loop-next.due.items
-                c.pop.new.self.items c.in-Some.next c.in-Some.ensures.items c.loop-next.invariant.0 n.none,
-            wrong_within c.args.schema.now.kinds (c.args.kind.place, json_in c.args.tree.now) c.loop-next.due.items
-                c.pop.new.self.items c.in-Some.next c.in-Err.fault.why c.in-Some.ensures.items
-                c.loop-next.invariant.2 n,
-          )
+          inr (tree_refused c.args.schema.now.kinds root c.loop-next.out.items c.loop-next.due.items
+          c.pop.new.self.items c.in-Some.next c.in-Some.ensures.items c.loop-next.invariant.0 n.none)
     ]
 
 pub returns : goal.returns
