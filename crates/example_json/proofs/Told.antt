@@ -24,64 +24,76 @@ use Rattle.xdr_json.specs.Spelled.{shows, under, spell, spells, is_number, is_de
 use Rattle.xdr_json.specs.Text.{IsSpelling, json_text}
 use Rattle.xdr_json_reader.specs.Nodes.{Due, Shows, ShowsNone}
 use Rattle.xdr_json_reader.specs.Reasons.{NodeTells, IsWrongText, IsBeyond, Tells, number_reason, WantsNone, IsRight}
-use Rattle.xdr_json_reader.specs.Reasons.{IsFirst, behind, here, in_part, lacks, in_member, on_key}
+use Rattle.xdr_json_reader.specs.Reasons.{Fault, IsFirst, behind, here, in_part, lacks, in_member, on_key}
 use Rattle.xdr_json_reader.specs.declared.fault.JsonFault.{JsonFault}
 use Rattle.xdr_json_reader.specs.declared.fault.JsonReason.{JsonReason}
 use Rattle.xdr_json_reader.specs.declared.fault.JsonReason.TheVariants as why
 
--- a value that stands for nothing is the first fault itself, where it has no members by name
-alone : (kinds : List KindView) (root : Due) (w : JsonReason) → WantsNone kinds (kind_at kinds root.0) root.1
-    → ShowsNone kinds (kind_at kinds root.0) root.1 → (IsRight kinds root → ⊥) → IsFirst kinds root w
-    → NodeTells kinds (kind_at kinds root.0) root.1 w
-alone kinds root w plain none wrong (behind _ _ _ p f) = absurd (wrong p)
-alone kinds root w plain none wrong (here _ _ _ n h) = h.tells
-alone kinds root w plain none wrong (in_part _ _ h _ n s f) = absurd (none h s)
-alone kinds _ _ plain none wrong (lacks place ms _ ps wants m) = absurd (plain ps wants)
-alone kinds _ w plain none wrong (in_member place ms _ ps _ wants m f) = absurd (plain ps wants)
-alone kinds _ w plain none wrong (on_key place ms _ ps _ wants e a) = absurd (plain ps wants)
+-- a value that stands for nothing is the first fault itself, where it has no members by name, whatever follows it
+pub alone : (kinds : List KindView) (d : Due) (ds : List Due) (w : JsonReason)
+    → WantsNone kinds (kind_at kinds d.0) d.1 → ShowsNone kinds (kind_at kinds d.0) d.1 → (IsRight kinds d → ⊥)
+    → Fault kinds (IsRight kinds) (d ∷ ds) w → NodeTells kinds (kind_at kinds d.0) d.1 w
+alone kinds d ds w plain none wrong (behind _ _ _ p f) = absurd (wrong p)
+alone kinds d ds w plain none wrong (here _ _ _ n h) = h.tells
+alone kinds d ds w plain none wrong (in_part _ _ h _ n s f) = absurd (none h s)
+alone kinds _ ds _ plain none wrong (lacks place ms _ ps wants m) = absurd (plain ps wants)
+alone kinds _ ds w plain none wrong (in_member place ms _ ps _ wants m f) = absurd (plain ps wants)
+alone kinds _ ds w plain none wrong (on_key place ms _ ps _ wants e a) = absurd (plain ps wants)
 
-some-is : {A : Type 0} (x y : A) → Some x ≡ Some y → x ≡ y
+-- a value that stands for nothing is not spelled
+pub unspelled : (kinds : List KindView) (place : ℕ) (j : Json) → ShowsNone kinds (kind_at kinds place) j → (t : Tree)
+    → spells kinds place j t ≡ true → ⊥
+unspelled kinds place j none t h =
+    let f = kind_at kinds place in
+    let one = both (is_legal kinds f t.0 && shows kinds f t.0 j) (spell kinds (parts f t.0) (under kinds f t.0 j) t.1)
+    h in
+    let two = both (is_legal kinds f t.0) (shows kinds f t.0 j) one.0 in
+    none t.0 (record { legal = two.0; shown = two.1 })
+
+pub some-is : {A : Type 0} (x y : A) → Some x ≡ Some y → x ≡ y
 some-is {A} x y e = ap from e
   where
     from : Option A → A
     from (Some z) = z
     from _ = x
 
+module _ (kinds : List KindView) (place : ℕ) (limits : Bounds) (text : List ℕ) (j : Json) (utf8 : IsUtf8 text)
+    (is : json_text text ≡ Some j) (wrong : (t : Tree) → spells kinds place j t ≡ true → ⊥) where
+  not_none : json_text text ≡ None → ⊥
+  not_none e = true≢false (ap is_some (sym is ∙ e))
+
+  not_beyond : (P : Tree → Type 0) → IsBeyond kinds place text P → ⊥
+  not_beyond P b =
+      wrong b.value
+      (subst (λ (x : Json). spells kinds place x b.value ≡ true) (some-is b.tree j (sym b.is.is ∙ is)) b.spells)
+
+  at_first : (w : JsonReason) → IsWrongText kinds place text w → IsFirst kinds (place, j) w
+  at_first w t =
+      let tree : t.0 ≡ j = some-is t.0 j (sym t.1.is ∙ is) in
+      subst (λ (x : Json). IsFirst kinds (place, x) w) tree t.2
+
+  -- it is refused for the first fault of the JSON, an allocation failure aside
+  pub first_told : (w : JsonReason) → Tells kinds place limits text w → IsFirst kinds (place, j) w ⊎ (w ≡ why.NoMemory)
+  first_told why.NoMemory t = inr refl
+  first_told why.NotJson (inl n) = absurd (n utf8)
+  first_told why.NotJson (inr n) = absurd (not_none (n 4096 (omega arith)))
+  first_told why.TooDeep (inl n) = absurd (not_none n)
+  first_told why.TooDeep (inr b) = absurd (not_beyond _ b)
+  first_told why.TooLarge b = absurd (not_beyond _ b)
+  first_told w t = inl (at_first w t)
+
 module _ (kinds : List KindView) (place : ℕ) (limits : Bounds) (text : List ℕ) (j : Json) (r : JsonReason)
     (utf8 : IsUtf8 text) (is : json_text text ≡ Some j) (plain : WantsNone kinds (kind_at kinds place) j)
     (none : ShowsNone kinds (kind_at kinds place) j)
     (only : (w : JsonReason) → NodeTells kinds (kind_at kinds place) j w → w ≡ r) where
-  not_none : json_text text ≡ None → ⊥
-  not_none e = true≢false (ap is_some (sym is ∙ e))
-
-  pub not_spelled : (t : Tree) → spells kinds place j t ≡ true → ⊥
-  not_spelled t h =
-      let f = kind_at kinds place in
-      let one = both (is_legal kinds f t.0 && shows kinds f t.0 j)
-      (spell kinds (parts f t.0) (under kinds f t.0 j) t.1) h in
-      let two = both (is_legal kinds f t.0) (shows kinds f t.0 j) one.0 in
-      none t.0 (record { legal = two.0; shown = two.1 })
-
-  not_beyond : (P : Tree → Type 0) → IsBeyond kinds place text P → ⊥
-  not_beyond P b =
-      not_spelled b.value
-      (subst (λ (x : Json). spells kinds place x b.value ≡ true) (some-is b.tree j (sym b.is.is ∙ is)) b.spells)
-
-  wrong : (w : JsonReason) → IsWrongText kinds place text w → w ≡ r
-  wrong w t =
-      let tree : t.0 ≡ j = some-is t.0 j (sym t.1.is ∙ is) in
-      let at = subst (λ (x : Json). IsFirst kinds (place, x) w) tree t.2 in
-      only w (alone kinds (place, j) w plain none (λ r. not_spelled r.0 r.1) at)
-
   -- it is refused for the value's reason, an allocation failure aside
   pub told : (w : JsonReason) → Tells kinds place limits text w → (w ≡ r) ⊎ (w ≡ why.NoMemory)
-  told why.NoMemory t = inr refl
-  told why.NotJson (inl n) = absurd (n utf8)
-  told why.NotJson (inr n) = absurd (not_none (n 4096 (omega arith)))
-  told why.TooDeep (inl n) = absurd (not_none n)
-  told why.TooDeep (inr b) = absurd (not_beyond _ b)
-  told why.TooLarge b = absurd (not_beyond _ b)
-  told w t = inl (wrong w t)
+  told w t =
+      elim (first_told kinds place limits text j utf8 is (unspelled kinds place j none) w t) [
+        | inl f ↦
+            inl (only w (alone kinds (place, j) [] w plain none (λ r. unspelled kinds place j none r.0 r.1) f))
+        | inr m ↦ inr m
+      ]
 
 -- ---- an answer
 
@@ -97,12 +109,17 @@ why_of P Q (Err f) all p = all f.why p
 
 -- ---- a text of one int, whose JSON is none
 
+-- JSON that is the number of no int
+pub no_int_head : (kinds : List KindView) (j : Json)
+    → ((z : ℤ) → is_signed (2 ^ 31) z ≡ true → is_number z j ≡ true → ⊥) → ShowsNone kinds xdr.int j
+no_int_head kinds j none (value.int z) s = none z s.legal s.shown
+no_int_head kinds j none _ s = false≢true s.legal
+
 module _ (kinds : List KindView) (limits : Bounds) (text bs : List ℕ) (j : Json) (e : kinds ≡ xdr.int ∷ [])
     (h : text ≡ bs) (u : is_utf8 bs ≡ true) (is : json_text bs ≡ Some j)
     (none : (z : ℤ) → is_signed (2 ^ 31) z ≡ true → is_number z j ≡ true → ⊥) where
   no_head : ShowsNone (xdr.int ∷ []) xdr.int j
-  no_head (value.int z) s = none z s.legal s.shown
-  no_head _ s = false≢true s.legal
+  no_head = no_int_head (xdr.int ∷ []) j none
 
   pub int_told : (w : JsonReason) → Tells kinds 0 limits text w → (w ≡ number_reason j) ⊎ (w ≡ why.NoMemory)
   int_told w t =
@@ -112,8 +129,7 @@ module _ (kinds : List KindView) (limits : Bounds) (text bs : List ℕ) (j : Jso
 
   pub no_int : (t : Tree) → IsSpelling kinds 0 limits text t → ⊥
   no_int t s =
-      not_spelled (xdr.int ∷ []) 0 limits bs j (number_reason j) (IsUtf8-from_is_utf8 bs u) is (λ ps w. w) no_head
-      (λ v n. n) t
+      unspelled (xdr.int ∷ []) 0 j no_head t
       (subst (λ (k : Json). spells (xdr.int ∷ []) 0 k t ≡ true)
       (some-is s.tree j (sym s.is ∙ ap json_text h ∙ is))
       (subst (λ (x : List KindView). spells x 0 s.tree t ≡ true) e s.spells))

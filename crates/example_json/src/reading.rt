@@ -6,7 +6,7 @@ ghost use Rattle.xdr_types.specs.Tree.{absent, from_list, hyper, none, present};
 ghost use Rattle.xdr_types.specs.View.{tree};
 ghost use Rattle.xdr_types.specs.Within.{FitsWithin};
 ghost use Rattle.xdr_json_reader.specs.declared.fault.JsonReason.TheVariants.{NoMemory, NotJson, NotWhole, WrongType};
-ghost use Rattle.example_json.specs.Files.{file_kinds, sillyprog, sillyprog_text};
+ghost use Rattle.example_json.specs.Files.{file_kinds, part, sillyprog, sillyprog_text};
 
 use std::alloc::Global;
 use xdr_json::{Layout, write_json};
@@ -135,6 +135,22 @@ pub fn refuses_a_fraction(
     ensures why { IfErr result (λ f. (f.why ≡ NotWhole) ⊎ (f.why ≡ NoMemory)) }
 {
     read_json(alloc, schema, KindId { place: 0 }, limits, text)
+}
+
+/// Of two faults the first in the order of the text is told, though the other one is of the first field.
+pub fn tells_the_first_fault(
+    alloc: Global,
+    schema: &Schema,
+    limits: Limits,
+    text: &[u8],
+) -> Result<Value, JsonFault>
+    requires kinds { schema.now.kinds
+        ≡ xdr.int ∷ xdr.structure (part (codes "a") 0 ∷ part (codes "b") 0 ∷ []) ∷ [] }
+    requires text { text.now ≡ codes "{\"b\":1.5,\"a\":true}" }
+    ensures refused { IsErr result }
+    ensures why { IfErr result (λ f. (f.why ≡ NotWhole) ⊎ (f.why ≡ NoMemory)) }
+{
+    read_json(alloc, schema, KindId { place: 1 }, limits, text)
 }
 
 /// A text that is no UTF-8 is no JSON: here a string whose one byte begins no character.
