@@ -6,19 +6,17 @@ ghost use Rattle.rpc_message.specs.View.{call_view};
 use crate::reaching::{port_to, stream_to};
 use crate::timed::{TimedReader, TimedWriter, Until};
 use crate::unreached::Unreached;
-use oncrpc_call::{ask_by_datagrams, port_question};
-use registry_uaddr::read_uaddr;
+use oncrpc_call::{Transport, ask_by_datagrams, port_question, told_port};
 use rpc_engine::{ClientFault, exchange};
 use rpc_message::{Call, Reply, Status};
 use std::net::SocketAddr;
-use xdr_units::{first_content, first_word};
 
 /// How often the registry is asked over UDP, a second apart.
 const TIMES: u32 = 4294967295;
 
 /// The port of a version of a program, as the registry at this address has it. It is asked by GETADDR of version 4,
-/// then of version 3, and then by GETPORT of version 2 (RFC 1833 sections 2.2.1 and 3.2). A version that refuses the
-/// call, or has no row, leaves the question to the next.
+/// then of version 3, and over IPv4 then by GETPORT of version 2 (RFC 1833 sections 2.2.1 and 3.2). A version that
+/// refuses the call, or has no row, leaves the question to the next.
 pub fn port_of(
     until: Until<'_>,
     registry: SocketAddr,
@@ -30,7 +28,7 @@ pub fn port_of(
     for asking in over.registries() {
         let call = port_question(until.runtime().alloc(), *asking, program, version, over)?;
         if let Some(results) = asked(until, registry, udp, &call)? {
-            if let Some(port) = port_in(asking, &results) {
+            if let Some(port) = told_port(*asking, over, &results) {
                 return Ok(port);
             }
         }

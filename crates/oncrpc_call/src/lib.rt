@@ -5,8 +5,10 @@
 //!   result.
 //! - `datagrams`: a call that is sent again while no reply comes. `asking`: the call that a name and arguments ask for.
 //! - `arguments`: bytes judged as arguments. `unasked`: why nothing is asked.
-//! - `page`: what is printed of a reply. `results`: what results are. `refusal`: the lines of other replies.
-//! - `null`: the call of procedure 0. `question`: that for a port. `laws`: what follows from the definitions.
+//! - `page`: what is printed of a reply. `results`: what results are. `refusal`: the lines of other replies. `failing`:
+//!   those of devices and of memory.
+//! - `null`: the call of procedure 0. `question`: that for a port, over a `transport`. `port`: the port that is told,
+//!   over IPv6 by the text of `uaddr6`. `laws`: what follows from the definitions.
 #![tactic(auto)]
 
 mod arguments;
@@ -18,9 +20,12 @@ mod laws;
 mod null;
 mod page;
 mod question;
+mod port;
 mod refusal;
 mod results;
 mod unasked;
+mod transport;
+mod uaddr6;
 
 pub use arguments::judge_arguments;
 pub use asked::{Asked, Form};
@@ -31,3 +36,4 @@ pub use laws::results_have_one_ending;
 pub use null::ask_null;
 pub use question::port_question;
 pub use unasked::Unasked;
+pub use transport::Transport;
