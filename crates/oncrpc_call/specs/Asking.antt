@@ -16,7 +16,6 @@ use Rattle.oncrpc_call.specs.declared.asked.Asked.{Asked}
 use Rattle.oncrpc_call.specs.declared.asked.Form.{Form}
 use Rattle.oncrpc_call.specs.declared.asked.Form.TheVariants as form
 use Rattle.oncrpc_call.specs.declared.asking.Terms as declared
-use Rattle.oncrpc_call.specs.declared.asking.TheConstants.{MOST_ARGUMENTS}
 use Rattle.oncrpc_call.specs.declared.unasked.Unasked.{Unasked}
 use Rattle.oncrpc_call.specs.declared.unasked.Unasked.TheVariants as unasked
 
@@ -75,9 +74,13 @@ IsResultKind kinds (Some k) own place = (own ≡ kinds) × (place ≡ k)
 pub record AsksFor (name : List ℕ) (d : Declared) (args : List ℕ) (terms : Terms) (asked : Asked) : Type 0 where
   pub target : Target
   pub named : Names name d.programs target
-  pub short : length args ≤ MOST_ARGUMENTS
+  pub short : length args ≤ most_arguments
   pub judged : AreArguments d.schema.kinds target.procedure.arguments terms.limits args
   pub call_is : call_view asked.call ≡ call_for target terms.xid terms.cred args
+-- the most bytes of the arguments of a call
+abbrev pub most_arguments : ℕ
+most_arguments = 16777216
+
   pub result_is : IsResultKind d.schema.kinds target.procedure.result asked.schema.kinds asked.result.place
   pub limits_are : asked.limits ≡ terms.limits
   pub form_is : asked.form ≡ terms.form
@@ -116,6 +119,6 @@ pub record Mismatches (name : List ℕ) (d : Declared) (args : List ℕ) (limits
 -- why nothing is asked
 abbrev pub AsksNothing : (name : List ℕ) → Declared → (args : List ℕ) → Bounds → Unasked → Type 0
 AsksNothing name d args limits (unasked.Name why) = NamesNone name d.programs why
-AsksNothing name d args limits unasked.TooLong = MOST_ARGUMENTS < length args
+AsksNothing name d args limits unasked.TooLong = most_arguments < length args
 AsksNothing name d args limits unasked.NoMemory = ⊤
 AsksNothing name d args limits why = Mismatches name d args limits why
