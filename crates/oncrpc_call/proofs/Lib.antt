@@ -5,4 +5,5 @@ pub mod Ending
 pub mod Judged
 pub mod Passing
 pub mod Ports
+pub mod Short
 pub mod Telling

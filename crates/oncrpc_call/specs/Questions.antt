@@ -1,7 +1,10 @@
 -- The question for a program's port, as it is put to a registry (RFC 1833 sections 2.2.1 and 3.2).
-use Rattle.std.specs.Prelude.{ℕ, ◌==◌, List, [], ◌∷◌, ◌++◌, codes, length, if◌then◌else◌}
+use Rattle.std.specs.Prelude.{ℕ, ◌==◌, ◌≤◌, List, [], ◌∷◌, ◌++◌, codes, length, if◌then◌else◌}
 use Rattle.xdr_units.specs.Numbers.{padded, word}
 use Rattle.rpc_message.specs.Message.{CallView}
+use Rattle.rpc_message.specs.Spelling.{call}
+use Rattle.rpc_message.specs.View.{call_view}
+use Rattle.rpc_message.specs.declared.message.Call.{Call}
 use Rattle.oncrpc_call.specs.declared.transport.Transport.{Transport}
 use Rattle.oncrpc_call.specs.declared.transport.Transport.TheVariants as over
 
@@ -48,3 +51,10 @@ question registry program version t = record {
   verf = record { flavor = 0; body = [] };
   args = if registry == 2 then port_args program version t else address_args program version t;
 }
+
+-- The call can be sent: credential and verifier are short enough for a message (RFC 5531 section 8.2), and the call is
+-- for one datagram over IPv4, so also for one fragment (RFC 5531 section 11).
+pub record CanBeSent (c : Call) : Type 0 where
+  pub cred : length c.cred.body.items ≤ 400
+  pub verf : length c.verf.body.items ≤ 400
+  pub short : length (call (call_view c)) ≤ 65507

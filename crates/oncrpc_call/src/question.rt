@@ -1,7 +1,7 @@
 //! The question for a program's port, as it is put to a registry.
 ghost use Rattle.std.specs.Prelude.{◌≡◌, ◌≤◌, [], IfOk, length};
 ghost use Rattle.rpc_message.specs.View.{auth_view, call_view};
-ghost use Rattle.oncrpc_call.specs.Questions.{address_args, netid, port_args, question};
+ghost use Rattle.oncrpc_call.specs.Questions.{CanBeSent, address_args, netid, port_args, question};
 
 use crate::transport::Transport;
 use rpc_message::{Call, OpaqueAuth};
@@ -20,7 +20,10 @@ pub fn port_question(
     version: u32,
     over: Transport,
 ) -> Result<Call, NoMemory>
-    ensures { IfOk result (λ c. call_view c ≡ question registry program version over) }
+    // What is asked is that question,
+    ensures asks { IfOk result (λ c. call_view c ≡ question registry program version over) }
+    // and it can be sent.
+    ensures ready { IfOk result (λ c. CanBeSent c) }
 {
     let args = if registry == 2 {
         port_args(alloc, program, version, over)?
