@@ -2,6 +2,8 @@
 how long who hinders is waited for. Those of refusing are the same with each growth, read and write refused."""
 import os
 import re
+import subprocess
+import time
 
 from refuse_use.answering import (
     HOST,
@@ -139,6 +141,33 @@ def longest_rows(program, folder):
         wanted = (2, b"", b"the arguments are too long\n") if more else (0, b"9\n", b"")
         well = got == wanted and server.calls == ([] if more else [call(3, words(1) + opaque(content))])
         yield f"arguments of {16777216 + more} bytes", well, (got, [len(it) for it in server.calls])
+
+
+def unread_rows(program, folder):
+    """An output that fails once the time is up is a write that failed, and no answer that came too late."""
+    row = words(1, 100000, 4) + opaque(b"tcp") + opaque(b"127.0.0.1.0.111") + opaque(b"superuser")
+    for line, reply in (
+        (["ASKED.FIRST.ECHO", "--arguments", '"hi"', "--timeout", "1"], success(opaque(bytes(1000000)))),
+        (["--timeout", "1"], success(2000 * row + words(0), xid=1)),
+    ):
+        with Server(replying(reply)) as server:
+            is_call = "ASKED.FIRST.ECHO" in line
+            of_it = call_words(server.port, line) if is_call else ["info", HOST, str(server.port), *line]
+            got = unread(program, folder, of_it)
+        yield f"{of_it[0]}, whose output fails once the time is up", got == (3, b"write fault\n"), got
+
+
+def unread(program, folder, line):
+    """The status and what is said of a run whose output is a pipe that nobody reads, and that is closed after two
+    seconds."""
+    reading, writing = os.pipe()
+    how = {"cwd": folder, "stdin": subprocess.DEVNULL, "stdout": writing, "stderr": subprocess.PIPE}
+    with subprocess.Popen([program, *line], **how) as running:
+        os.close(writing)
+        time.sleep(2)
+        os.close(reading)
+        faults = running.communicate(timeout=60)[1]
+    return running.returncode, faults
 
 
 def info_rows(program, folder):

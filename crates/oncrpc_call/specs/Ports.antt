@@ -5,6 +5,7 @@ use Rattle.std.specs.Net.Grammar.{IsIpv6Text}
 use Rattle.std.specs.declared.net.ipv6_addr.Ipv6Addr.{Ipv6Addr}
 use Rattle.xdr_units.specs.Numbers.{padded, word}
 use Rattle.registry_uaddr.specs.Uaddrs.{uaddr_of}
+use Rattle.registry_uaddr.specs.declared.address.Uaddr.{Uaddr}
 use Rattle.oncrpc_call.specs.declared.transport.Transport.{Transport}
 use Rattle.oncrpc_call.specs.declared.transport.Transport.TheVariants as over
 
@@ -19,7 +20,7 @@ pub record IsUaddr6 (text : List ℕ) (port : ℕ) : Type 0 where
 
 -- the same over IPv4: four octets of a host and two of the port (RFC 5665 section 5.2.3.3)
 abbrev pub IsUaddr4 : (text : List ℕ) → (port : ℕ) → Type 0
-IsUaddr4 text port = option_map (λ a. a.port) (uaddr_of text) ≡ Some port
+IsUaddr4 text port = option_map (λ (a : Uaddr). a.port) (uaddr_of text) ≡ Some port
 
 -- the text is a universal address over a transport's protocol with this port
 abbrev pub IsUaddrOver : Transport → (text : List ℕ) → (port : ℕ) → Type 0
