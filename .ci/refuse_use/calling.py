@@ -232,7 +232,8 @@ def call_rows(program, folder, heap):
     """The rows, each whether it is as it should be."""
     with open(f"{folder}/asked.x", "wb") as it:
         it.write(DECLARED)
-    for rows in (asked_rows, unasked_rows, longest_rows, hindered_rows, info_rows, ping_rows, recorded_rows):
+    by_themselves = (asked_rows, unasked_rows, longest_rows, hindered_rows, unread_rows, info_rows, ping_rows)
+    for rows in (*by_themselves, recorded_rows):
         for name, is_well, told in rows(program, folder):
             print(f"oncrpc call, {name}: {'as it should' if is_well else told}", flush=True)
             yield bool(is_well)
