@@ -31,6 +31,24 @@ one_left ids at some = at_drop_more places ids at (record { place = 0 }) some
 pub place_is : (ids : List KindId) (at : ℕ) → at < length ids → get_or (places ids) at 0 ≡ place_at ids at
 place_is ids at some = get_or-map (λ (k : KindId). k.place) ids at (record { place = 0 }) 0 some
 
+-- No value begins the bytes of a refusal.
+pub none_begins : (kinds : List KindView) (k : ℕ) (limits : Bounds) (b : List ℕ) (why : Reason)
+    → why ≢ reason.NoMemory → IsRefused (HasNoneWithin kinds k limits) why b → (v : Tree) (more : List ℕ)
+    → FitsWithin kinds k limits v → b ≡ bytes_of kinds k v ++ more → ⊥
+none_begins kinds k limits b why known none v more fits joined =
+    none [] (ends why known) v more fits (sym joined ∙ sym (append-nil b))
+  where
+    ends : (w : Reason) → w ≢ reason.NoMemory → MayFollow w []
+    ends reason.BadBool other = tt
+    ends reason.BadNumbered other = tt
+    ends reason.BadCase other = tt
+    ends reason.TooLong other = tt
+    ends reason.BadPadding other = tt
+    ends reason.TooDeep other = tt
+    ends reason.TooLarge other = tt
+    ends reason.Truncated other = refl
+    ends reason.NoMemory other = absurd (other refl)
+
 module _ (kinds : List KindView) (k : ℕ) (ks : List ℕ) (limits : Bounds) (b : List ℕ) where
   -- The first argument is the value that begins the bytes, and the others are those of what follows it.
   module _ (v : Tree) (used : ℕ) (fits : FitsWithin kinds k limits v) (within : used ≤ length b)
@@ -61,19 +79,7 @@ module _ (kinds : List KindView) (k : ℕ) (ks : List ℕ) (limits : Bounds) (b 
   -- No value begins the bytes.
   pub none_first : (why : Reason) → why ≢ reason.NoMemory
       → IsRefused (HasNoneWithin kinds k limits) why b → AreArguments kinds (k ∷ ks) limits b → ⊥
-  none_first why known none h =
-      none [] (ends why known) h.0 h.1 h.2 (sym h.3 ∙ sym (append-nil b))
-    where
-      ends : (w : Reason) → w ≢ reason.NoMemory → MayFollow w []
-      ends reason.BadBool other = tt
-      ends reason.BadNumbered other = tt
-      ends reason.BadCase other = tt
-      ends reason.TooLong other = tt
-      ends reason.BadPadding other = tt
-      ends reason.TooDeep other = tt
-      ends reason.TooLarge other = tt
-      ends reason.Truncated other = refl
-      ends reason.NoMemory other = absurd (other refl)
+  none_first why known none h = none_begins kinds k limits b why known none h.0 h.1 h.2 h.3
 
 -- one more argument behind others
 with_last : (kinds : List KindView) (k : ℕ) (ks : List ℕ) (limits : Bounds) (b : List ℕ) (v : Tree)

@@ -3,6 +3,7 @@ pub mod Behind
 pub mod Dots
 pub mod Ending
 pub mod Judged
+pub mod OneLine
 pub mod Passing
 pub mod Ports
 pub mod Short

@@ -1,7 +1,8 @@
 -- What is read of a registry's results is what they tell.
 use Rattle.std.proofs.Common.{◌≡◌, ℕ, ◌+◌, ◌*◌, ◌/◌, ◌%◌, ◌<◌, ◌^◌, List, ◌++◌, length, decimal, codes, sym, ap}
-use Rattle.std.proofs.Common.{subst, ◌∙◌, arith, mod-lt}
+use Rattle.std.proofs.Common.{subst, ◌∙◌, arith, mod-lt, refl, Bool, true, false, nat_eq, ◌==◌, MatchBool}
 use Rattle.std.proofs.Math.Nat.{div-add-mod}
+use Rattle.std.proofs.lemmas.Bool.Decides.{Decides-eqb}
 use Rattle.std.specs.Net.Grammar.{IsIpv6Text}
 use Rattle.std.specs.declared.net.ipv6_addr.Ipv6Addr.{Ipv6Addr}
 use Rattle.xdr_units.specs.Numbers.{IsWord, padded, word}
@@ -54,3 +55,24 @@ address_told t results rest text more count port begins fits counted behind is =
   begins = begins ∙ (λ j. word (sym counted j) ++ behind j);
   address = is;
 }
+
+-- version 2 and the others
+module _ (P Q : Type 0) (n : ℕ) where
+  pub two : n ≡ 2 → P → MatchBool (n == 2) P Q
+  two is p = subst (λ (k : ℕ). MatchBool (k == 2) P Q) (sym is) p
+
+  pub of_two : n ≡ 2 → MatchBool (n == 2) P Q → P
+  of_two is m = subst (λ (k : ℕ). MatchBool (k == 2) P Q) is m
+
+  not_two : (n ≡ 2 → ⊥) → nat_eq n 2 ≡ false
+  not_two other = by (nat_eq n 2) refl
+    where
+      by : (b : Bool) → nat_eq n 2 ≡ b → b ≡ false
+      by false e = refl
+      by true e = absurd (other ((Decides-eqb n 2).0 e))
+
+  pub others : (n ≡ 2 → ⊥) → Q → MatchBool (n == 2) P Q
+  others other q = subst (λ (b : Bool). MatchBool b P Q) (sym (not_two other)) q
+
+  pub of_others : (n ≡ 2 → ⊥) → MatchBool (n == 2) P Q → Q
+  of_others other m = subst (λ (b : Bool). MatchBool b P Q) (not_two other) m

@@ -44,7 +44,12 @@ pub record TellsNumber (results : List ℕ) (port : ℕ) : Type 0 where
   pub small : port < 2 ^ 16
   pub begins : results ≡ word port ++ more
 
+-- the results of a version of the registry begin with a port, in version 2 with a number
+abbrev pub BeginsWith : (registry : ℕ) → Transport → (results : List ℕ) → (port : ℕ) → Type 0
+BeginsWith registry t results port =
+    MatchBool (registry == 2) (TellsNumber results port) (TellsAddress t results port)
+
 -- A version of the registry tells a port, which is not 0: 0 says that there is no row (RFC 1833 section 3.2).
 pub record TellsPort (registry : ℕ) (t : Transport) (results : List ℕ) (port : ℕ) : Type 0 where
   pub some : 0 < port
-  pub told : MatchBool (registry == 2) (TellsNumber results port) (TellsAddress t results port)
+  pub told : BeginsWith registry t results port

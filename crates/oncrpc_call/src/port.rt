@@ -1,7 +1,7 @@
 //! The port that a registry tells.
 ghost use Rattle.std.specs.Prelude.{◌≡◌, ◌<◌, ℕ, Some, IfSome, option_map};
 ghost use Rattle.registry_uaddr.specs.Uaddrs.{uaddr_of};
-ghost use Rattle.oncrpc_call.specs.Ports.{IsUaddrOver, TellsAddress, TellsNumber, TellsPort};
+ghost use Rattle.oncrpc_call.specs.Ports.{BeginsWith, IsUaddrOver, TellsAddress, TellsNumber, TellsPort};
 
 use crate::transport::Transport;
 use crate::uaddr6::port_over_6;
@@ -18,12 +18,20 @@ pub fn told_port(registry: u32, over: Transport, results: &[u8]) -> Option<u16>
     // and a port that they tell is found.
     ensures only { (port : ℕ) → TellsPort registry over results.now port → result ≡ Some port }
 {
-    let port = if registry == 2 {
-        port_in_number(results)?
-    } else {
-        port_in_address(over, results)?
-    };
+    let port = port_in(registry, over, results)?;
     if port > 0 { Some(port) } else { None }
+}
+
+// The port that results begin with, which may be 0.
+fn port_in(registry: u32, over: Transport, results: &[u8]) -> Option<u16>
+    ensures told { IfSome result (λ port. BeginsWith registry over results.now port) }
+    ensures only { (port : ℕ) → BeginsWith registry over results.now port → result ≡ Some port }
+{
+    if registry == 2 {
+        port_in_number(results)
+    } else {
+        port_in_address(over, results)
+    }
 }
 
 // The port of the text of an address with which results begin.
