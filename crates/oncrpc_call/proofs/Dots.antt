@@ -2,6 +2,8 @@
 use Rattle.std.proofs.Common.{◌≡◌, ℕ, ◌+◌, ◌-◌, ◌<◌, ◌≤◌, suc, zero, Bool, true, false, List, [], ◌∷◌, ◌++◌}
 use Rattle.std.proofs.Common.{length, take}
 use Rattle.std.proofs.Common.{drop, get_or, refl, ap, sym, ◌∙◌, subst, nat_eq, arith, decimal, codes, append_assoc}
+use Rattle.std.proofs.Common.{Option, None, Some, is_some, true≢false, ◌^◌}
+use Rattle.std.specs.Option.{unwrap_or}
 use Rattle.std.proofs.lemmas.Bool.Decides.{Decides-eqb}
 use Rattle.std.proofs.lemmas.List.{drop_all, drop_more, take_rest}
 use Rattle.xdr_units.specs.Texts.{HasNoDot}
@@ -76,6 +78,30 @@ module _ (text front part : List ℕ) (last : HasNoDot part) (cut : text ≡ fro
   octet_only f n small e =
       same_last front f part (decimal n) last (no_dot_decimal n (omega (arith, small)))
       (sym cut ∙ e ∙ append_assoc f (46 ∷ []) (decimal n))
+
+none_some : (n : ℕ) → None ≡ Some n → ⊥
+none_some n e = true≢false (sym (ap is_some e))
+
+module _ (text front part : List ℕ) (last : HasNoDot part) (cut : text ≡ front ++ 46 ∷ part) where
+  -- what stands behind the last dot is no number
+  pub no_number : ((n : ℕ) → n < 2 ^ 32 → part ≡ decimal n → None ≡ Some n) → (f : List ℕ) (n : ℕ) → n < 256
+      → text ≡ f ++ codes "." ++ decimal n → ⊥
+  no_number never f n small e =
+      let own = octet_only text front part last cut f n small e in
+      none_some n (never n (omega (arith, small)) own.1)
+
+  -- it is this number
+  pub number_is : (m : ℕ) → ((n : ℕ) → n < 2 ^ 32 → part ≡ decimal n → Some m ≡ Some n) → (f : List ℕ) (n : ℕ)
+      → n < 256 → text ≡ f ++ codes "." ++ decimal n → (front ≡ f) × (m ≡ n)
+  number_is m one f n small e =
+      let own = octet_only text front part last cut f n small e in
+      (own.0, ap (λ (o : Option ℕ). unwrap_or o 0) (one n (omega (arith, small)) own.1))
+
+  -- it is a number above 255
+  pub too_large : (m : ℕ) → (m < 256 → ⊥) → ((n : ℕ) → n < 2 ^ 32 → part ≡ decimal n → Some m ≡ Some n)
+      → (f : List ℕ) (n : ℕ) → n < 256 → text ≡ f ++ codes "." ++ decimal n → ⊥
+  too_large m large one f n small e =
+      let same : m ≡ n = (number_is m one f n small e).1 in large (omega (arith, same, small))
 
 pub no_octet : (text f : List ℕ) (n : ℕ) → HasNoDot text → text ≡ f ++ codes "." ++ decimal n → ⊥
 no_octet text f n none e = no_cut f (decimal n) text none (e ∙ append_assoc f (46 ∷ []) (decimal n))
