@@ -17,8 +17,8 @@ program ASKED { version FIRST {
     string ECHO(string) = 1;
     pair SWAP(pair) = 2;
     unsigned int TWO(int, string) = 3;
-    int LESS(int) = 4;
     int PAIRS(pair, pair) = 4;
+    int LESS(int) = 5;
 } = 1; } = 536870913;
 """
 PROGRAM, VERSION = 536870913, 1
@@ -169,7 +169,7 @@ ASKED = [
         b"",
         b"result refused TooLong at 4\n",
     ),
-    (["ASKED.FIRST.LESS", "--arguments", "-1"], call(4, words(0xFFFFFFFF)), success(words(0xFFFFFFFE)), 0, b"-2\n", b""),
+    (["ASKED.FIRST.LESS", "--arguments", "-1"], call(5, words(0xFFFFFFFF)), success(words(0xFFFFFFFE)), 0, b"-2\n", b""),
 ]
 # The words, the standard input, the status and what is said: before anything is sent.
 UNASKED = [

@@ -128,6 +128,16 @@ def answered_over_6(program, folder):
             yield name, well, (got, [it.hex() for it in server.calls])
 
 
+def mapped_rows(program, folder):
+    """An address of IPv4 that is written within one of IPv6 is of IPv4 (RFC 4291 section 2.5.5.2)."""
+    for over in ([], ["--udp"]):
+        with Server(registry((AT, None, None)), 111) as server:
+            got, _ = run(program, folder, ["call", f"::ffff:{HOST}", *CALL[2:], *over])
+        asked = [question(4, over), words(0, 2, PROGRAM, 1, 0, 0, 0, 0, 0)]
+        well = got == (0, b"{}\n", b"") and [it[4:] for it in server.calls] == asked
+        yield f"a registry at ::ffff:{HOST} {' '.join(over)}", well, (got, [it.hex() for it in server.calls])
+
+
 def pinged_rows(program, folder):
     """A program that is pinged without a version is looked up by version 0."""
     answers = (opaque(b"127.0.0.1.0.111"), None, None)
@@ -197,7 +207,8 @@ def main(program, heap):
         with open(f"{folder}/asked.x", "wb") as it:
             it.write(DECLARED)
         swept_rows = lambda *of: refused_rows(*of, heap)
-        for rows in (answered_rows, answered_over_6, lost_rows, placed_rows, pinged_rows, hindered_rows, swept_rows):
+        told_rows = (answered_rows, answered_over_6, mapped_rows, lost_rows, placed_rows, pinged_rows)
+        for rows in (*told_rows, hindered_rows, swept_rows):
             for name, is_well, told in rows(program, folder):
                 print(f"oncrpc call, {name}: {'as it should' if is_well else told}", flush=True)
                 well.append(bool(is_well))

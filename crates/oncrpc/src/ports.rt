@@ -36,9 +36,10 @@ pub fn port_of(
     Err(Unreached::Unregistered)
 }
 
-// The transport over which an address is reached.
+// The transport over which an address is reached: IPv4 also where it is written within one of IPv6 (RFC 4291 section
+// 2.5.5.2).
 fn transport_to(place: SocketAddr, udp: bool) -> Transport {
-    match (place.is_ipv4(), udp) {
+    match (place.ip().to_canonical().is_ipv4(), udp) {
         (true, false) => Transport::Tcp,
         (true, true) => Transport::Udp,
         (false, false) => Transport::Tcp6,
