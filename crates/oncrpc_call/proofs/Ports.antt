@@ -1,6 +1,6 @@
 -- What is read of a registry's results is what they tell.
 use Rattle.std.proofs.Common.{◌≡◌, ℕ, ◌+◌, ◌*◌, ◌/◌, ◌%◌, ◌<◌, ◌^◌, List, ◌++◌, length, decimal, codes, sym, ap}
-use Rattle.std.proofs.Common.{subst, ◌∙◌, arith, mod-lt, refl, Bool, true, false, nat_eq, ◌==◌, MatchBool}
+use Rattle.std.proofs.Common.{subst, ◌∙◌, arith, mod-lt, refl, Bool, true, false, ◌==◌, MatchBool}
 use Rattle.std.proofs.Common.{Option, None, Some}
 use Rattle.std.proofs.Math.Nat.{div-add-mod}
 use Rattle.std.proofs.lemmas.Bool.Decides.{Decides-eqb}
@@ -152,10 +152,10 @@ module _ (P Q : Type 0) (n : ℕ) where
   pub of_two : n ≡ 2 → MatchBool (n == 2) P Q → P
   of_two is m = subst (λ (k : ℕ). MatchBool (k == 2) P Q) is m
 
-  not_two : (n ≡ 2 → ⊥) → nat_eq n 2 ≡ false
-  not_two other = by (nat_eq n 2) refl
+  not_two : (n ≡ 2 → ⊥) → (n == 2) ≡ false
+  not_two other = by (n == 2) refl
     where
-      by : (b : Bool) → nat_eq n 2 ≡ b → b ≡ false
+      by : (b : Bool) → (n == 2) ≡ b → b ≡ false
       by false e = refl
       by true e = absurd (other ((Decides-eqb n 2).0 e))
 
