@@ -12,7 +12,7 @@ module _ (kinds : List KindView) (limits : Bounds) (bytes : List ℕ) where
   none_refused : length bytes ≡ 4 → (why : Unasked) → AreRefused kinds [] limits bytes why
       → (why ≡ unasked.Follows 4) ⊎ (why ≡ unasked.NoMemory)
   none_refused four (unasked.Follows count) h =
-      let joined = h.0.behind.joined ∙ ap (λ (x : List ℕ). x ++ h.0.rest) h.0.behind.judged in
+      let joined : bytes ≡ h.0.rest = h.0.behind.joined ∙ ap (λ (x : List ℕ). x ++ h.0.rest) h.0.behind.judged in
       let same : count ≡ 4 = h.0.many ∙ ap length (sym joined) ∙ four in
       inl (ap (λ (n : ℕ). unasked.Follows n) same)
   none_refused four (unasked.Argument at f) h = let within = h.0.within in absurd (omega (arith, within))

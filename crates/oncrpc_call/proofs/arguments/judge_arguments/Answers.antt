@@ -16,10 +16,11 @@ returns-in-Err-2-clause-refused c =
     let ids = c.args.kinds.now in
     let at = c.arguments.at in
     let rest = c.arguments.rest.now in
-    let known : c.in-Err-2.fault.why ≢ reason.NoMemory = search rules in (
-      refuses_at K ids at c.args.limits c.args.bytes.now rest c.in-Err-2.fault c.arguments.invariant.begun
-          c.arguments-test.true known c.in-Err-2.ensures.fault c.in-Err-2.ensures.refusal.refused
-          c.in-Err-2.ensures.refusal.place,
+    let known : c.in-Err-2.fault.why ≢ reason.NoMemory = search rules in
+    let fault_known : c.in-Err.fault.why ≢ reason.NoMemory = search rules in (
+      refuses_at K ids at c.args.limits c.args.bytes.now rest c.in-Err.fault c.arguments.invariant.begun
+          c.arguments-test.true fault_known c.in-Err.ensures.fault c.in-Err.ensures.refusal.refused
+          c.in-Err.ensures.refusal.place,
       λ h. none_first K (place_at ids at) (places (drop (at + 1) ids)) c.args.limits rest c.in-Err-2.fault.why known
           c.in-Err-2.ensures.refusal.refused
           (subst (λ (xs : List ℕ). AreArguments K xs c.args.limits rest) (one_left ids at c.arguments-test.true)

@@ -5,8 +5,8 @@ use Rattle.oncrpc_call.proofs.port.port_in_number.Goals as goal
 pub returns-in_err-port-clause-only : goal.returns-in_err-port-clause-only
 returns-in_err-port-clause-only c = search (rules, no_number_told)
 
-pub returns-then-port-clause-only : goal.returns-then-port-clause-only
-returns-then-port-clause-only c = search (rules, number_only)
+pub returns-then-port-lt65536-clause-only : goal.returns-then-port-lt65536-clause-only
+returns-then-port-lt65536-clause-only c = search (rules, number_only)
 
-pub returns-else-port-clause-only : goal.returns-else-port-clause-only
-returns-else-port-clause-only c = search (rules, number_large)
+pub returns-else-port-lt65536-clause-only : goal.returns-else-port-lt65536-clause-only
+returns-else-port-lt65536-clause-only c = search (rules, number_large)

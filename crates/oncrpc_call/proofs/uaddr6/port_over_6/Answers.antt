@@ -15,4 +15,6 @@ pub returns-in-Ok-clause-only : goal.returns-in-Ok-clause-only
 returns-in-Ok-clause-only c = search (rules, port_only)
 
 pub returns-in-Err-clause-only : goal.returns-in-Err-clause-only
-returns-in-Err-clause-only c = search (rules, no_host)
+returns-in-Err-clause-only c =
+    no_host c.args.text.now c.in_ok-front.front.now c.in_ok-host.host.now c.in_ok-host.high c.in_ok-front.low
+    c.in_ok-front.ensures.only c.in_ok-host.ensures.only c.in-Err.ensures
