@@ -3,7 +3,7 @@ with."""
 import json
 import subprocess
 
-HOST = "127.0.0.1"
+HOST, SIX = "127.0.0.1", "::1"
 
 
 def ask(words, given=None):

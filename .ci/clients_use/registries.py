@@ -2,7 +2,7 @@
 of it."""
 import re
 
-from clients_use.asking import HOST, Caller, ask, has_answered, rows_of, told
+from clients_use.asking import HOST, SIX, Caller, ask, has_answered, rows_of, told
 
 
 def port_rows(program, root, whose, over):
@@ -64,3 +64,19 @@ def registry_rows(program, root, whose):
         for rows in (port_rows, dump_rows, refused_rows):
             yield from rows(program, root, whose, over)
         yield from pinged_rows(program, whose, over)
+
+
+def six_rows(program, root):
+    """A registry that is asked over IPv6 tells the port of each of its versions that rpcinfo finds ready there."""
+    for over, netid in (([], "tcp6"), (["--udp"], "udp6")):
+        for version in ("3", "4"):
+            ended = ask(["rpcinfo", "-T", netid, SIX, "100000", version])
+            if "ready" not in ended[1]:
+                print(f"the rows of rpcbind's version {version} over {netid} are skipped: {ended}")
+                continue
+            got = ask([program, "ping", SIX, f"100000.{version}", *over])
+            name = f"oncrpc ping {SIX} 100000.{version} {' '.join(over)}"
+            yield has_answered(name, got, f"100000 {version} answered in ")
+            declared = ["--types", f"{root}/share/oncrpc/rpcbind.x"]
+            got = ask([program, "call", SIX, f"rpcbind.V{version}.NULL", *declared, *over])
+            yield told(f"oncrpc call {SIX} rpcbind.V{version}.NULL {' '.join(over)}", got, (0, "{}\n", ""), "RFC 1833")

@@ -14,9 +14,10 @@ class Server:
 
     def __init__(self, answer, port=0, host=HOST):
         self.answer, self.calls, self.moments, self.open = answer, [], [], True
-        self.stream = socket.create_server((host, port))
+        self.family = socket.AF_INET6 if ":" in host else socket.AF_INET
+        self.stream = socket.create_server((host, port), family=self.family)
         self.port = self.stream.getsockname()[1]
-        self.datagrams = socket.socket(type=socket.SOCK_DGRAM)
+        self.datagrams = socket.socket(self.family, socket.SOCK_DGRAM)
         self.datagrams.bind((host, self.port))
         self.threads = [threading.Thread(target=it, daemon=True) for it in (self.accept, self.receive)]
         for it in self.threads:
@@ -28,7 +29,7 @@ class Server:
     def __exit__(self, *_):
         self.open = False
         # (a datagram ends the wait for one, and with it what holds the port)
-        with contextlib.suppress(OSError), socket.socket(type=socket.SOCK_DGRAM) as waking:
+        with contextlib.suppress(OSError), socket.socket(self.family, socket.SOCK_DGRAM) as waking:
             waking.sendto(b"", self.datagrams.getsockname())
         with contextlib.suppress(OSError):
             self.stream.shutdown(socket.SHUT_RDWR)

@@ -18,6 +18,7 @@ program ASKED { version FIRST {
     pair SWAP(pair) = 2;
     unsigned int TWO(int, string) = 3;
     int PAIRS(pair, pair) = 4;
+    int LESS(int) = 5;
 } = 1; } = 536870913;
 """
 PROGRAM, VERSION = 536870913, 1
@@ -168,6 +169,7 @@ ASKED = [
         b"",
         b"result refused TooLong at 4\n",
     ),
+    (["ASKED.FIRST.LESS", "--arguments", "-1"], call(5, words(0xFFFFFFFF)), success(words(0xFFFFFFFE)), 0, b"-2\n", b""),
 ]
 # The words, the standard input, the status and what is said: before anything is sent.
 UNASKED = [

@@ -2,6 +2,8 @@
 how long who hinders is waited for. Those of refusing are the same with each growth, read and write refused."""
 import os
 import re
+import subprocess
+import time
 
 from refuse_use.answering import (
     HOST,
@@ -141,6 +143,33 @@ def longest_rows(program, folder):
         yield f"arguments of {16777216 + more} bytes", well, (got, [len(it) for it in server.calls])
 
 
+def unread_rows(program, folder):
+    """An output that fails once the time is up is a write that failed, and no answer that came too late."""
+    row = words(1, 100000, 4) + opaque(b"tcp") + opaque(b"127.0.0.1.0.111") + opaque(b"superuser")
+    for line, reply in (
+        (["ASKED.FIRST.ECHO", "--arguments", '"hi"', "--timeout", "1"], success(opaque(bytes(1000000)))),
+        (["--timeout", "1"], success(2000 * row + words(0), xid=1)),
+    ):
+        with Server(replying(reply)) as server:
+            is_call = "ASKED.FIRST.ECHO" in line
+            of_it = call_words(server.port, line) if is_call else ["info", HOST, str(server.port), *line]
+            got = unread(program, folder, of_it)
+        yield f"{of_it[0]}, whose output fails once the time is up", got == (3, b"write fault\n"), got
+
+
+def unread(program, folder, line):
+    """The status and what is said of a run whose output is a pipe that nobody reads, and that is closed after two
+    seconds."""
+    reading, writing = os.pipe()
+    how = {"cwd": folder, "stdin": subprocess.DEVNULL, "stdout": writing, "stderr": subprocess.PIPE}
+    with subprocess.Popen([program, *line], **how) as running:
+        os.close(writing)
+        time.sleep(2)
+        os.close(reading)
+        faults = running.communicate(timeout=60)[1]
+    return running.returncode, faults
+
+
 def info_rows(program, folder):
     """'info' waits as long as is asked for, too."""
     got, took = run(program, folder, ["info", HOST, "1", "--timeout", "2"])
@@ -203,7 +232,8 @@ def call_rows(program, folder, heap):
     """The rows, each whether it is as it should be."""
     with open(f"{folder}/asked.x", "wb") as it:
         it.write(DECLARED)
-    for rows in (asked_rows, unasked_rows, longest_rows, hindered_rows, info_rows, ping_rows, recorded_rows):
+    by_themselves = (asked_rows, unasked_rows, longest_rows, hindered_rows, unread_rows, info_rows, ping_rows)
+    for rows in (*by_themselves, recorded_rows):
         for name, is_well, told in rows(program, folder):
             print(f"oncrpc call, {name}: {'as it should' if is_well else told}", flush=True)
             yield bool(is_well)

@@ -35,18 +35,32 @@ ANSWERS = [
     ((None, None, None), [4, 3, 2], 1, b"", NO_ROW),
     ((b"", b"", b""), [4, 3, 2], 1, b"", NO_ROW),
 ]
+# The same of a registry over IPv6: versions 4 and 3 alone, and addresses as RFC 5665 section 5.2.3.4 has them, a host as
+# RFC 4291 section 2.2 writes it and the two octets of the port; and texts that are none.
+SIX = "::1"
+ANSWERS_OVER_6 = [
+    ((opaque(b"::1.0.111"), None, None), [4], 0, b"{}\n", b""),
+    ((opaque(b"::.0.111"), None, None), [4], 0, b"{}\n", b""),
+    ((None, opaque(b"2001:DB8:0:0:8:800:200C:417A.0.111"), None), [4, 3], 0, b"{}\n", b""),
+    ((opaque(b""), opaque(b"0:0:0:0:0:FFFF:129.144.52.38.0.111"), None), [4, 3], 0, b"{}\n", b""),
+    ((opaque(b"127.0.0.1.0.111"), opaque(b"::1.1"), words(111)), [4, 3], 1, b"", NO_ROW),
+    ((opaque(b"::1.0.256"), opaque(b"::1.0.0111"), words(111)), [4, 3], 1, b"", NO_ROW),
+    ((opaque(b":1.0.111"), opaque(b"1::2::3.0.111"), words(111)), [4, 3], 1, b"", NO_ROW),
+    ((opaque(b"::1.0.0"), opaque(b".0.111"), words(111)), [4, 3], 1, b"", NO_ROW),
+    ((None, None, words(111)), [4, 3], 1, b"", NO_ROW),
+]
 CALL = ["call", HOST, "ASKED.FIRST.NIL", "--types", "asked.x"]
 # Two names and their addresses, of which the system has 127.0.0.1 before the other of IPv4.
 SECOND = "127.0.0.2"
 NAMES = f"::1 first\n{HOST} first\n::1 second\n{SECOND} second\n{HOST} second\n"
 
 
-def question(version, udp):
+def question(version, udp, six=b""):
     """The call by which a version of the registry is asked, behind its xid."""
     if version == 2:
         row = words(PROGRAM, 1, 17 if udp else 6, 0)
     else:
-        row = words(PROGRAM, 1) + opaque(b"udp" if udp else b"tcp") + opaque(b"") + opaque(b"")
+        row = words(PROGRAM, 1) + opaque((b"udp" if udp else b"tcp") + six) + opaque(b"") + opaque(b"")
     return words(0, 2, REGISTRY, version, 3, 0, 0, 0, 0) + row
 
 
@@ -99,6 +113,29 @@ def answered_rows(program, folder):
             called = [words(0, 2, PROGRAM, 1, 0, 0, 0, 0, 0)] * (status == 0)
             well = got == (status, output, faults) and [it[4:] for it in server.calls] == asked + called
             yield f"a registry that answers {answers} {' '.join(over)}", well, (got, [it.hex() for it in server.calls])
+
+
+def answered_over_6(program, folder):
+    """The same over IPv6."""
+    for answers, versions, status, output, faults in ANSWERS_OVER_6:
+        for over in ([], ["--udp"]):
+            with Server(registry(answers), 111, SIX) as server:
+                got, _ = run(program, folder, ["call", SIX, *CALL[2:], *over])
+            asked = [question(version, over, b"6") for version in versions]
+            called = [words(0, 2, PROGRAM, 1, 0, 0, 0, 0, 0)] * (status == 0)
+            well = got == (status, output, faults) and [it[4:] for it in server.calls] == asked + called
+            name = f"a registry at {SIX} that answers {answers} {' '.join(over)}"
+            yield name, well, (got, [it.hex() for it in server.calls])
+
+
+def mapped_rows(program, folder):
+    """An address of IPv4 that is written within one of IPv6 is of IPv4 (RFC 4291 section 2.5.5.2)."""
+    for over in ([], ["--udp"]):
+        with Server(registry((AT, None, None)), 111) as server:
+            got, _ = run(program, folder, ["call", f"::ffff:{HOST}", *CALL[2:], *over])
+        asked = [question(4, over), words(0, 2, PROGRAM, 1, 0, 0, 0, 0, 0)]
+        well = got == (0, b"{}\n", b"") and [it[4:] for it in server.calls] == asked
+        yield f"a registry at ::ffff:{HOST} {' '.join(over)}", well, (got, [it.hex() for it in server.calls])
 
 
 def pinged_rows(program, folder):
@@ -170,7 +207,8 @@ def main(program, heap):
         with open(f"{folder}/asked.x", "wb") as it:
             it.write(DECLARED)
         swept_rows = lambda *of: refused_rows(*of, heap)
-        for rows in (answered_rows, lost_rows, placed_rows, pinged_rows, hindered_rows, swept_rows):
+        told_rows = (answered_rows, answered_over_6, mapped_rows, lost_rows, placed_rows, pinged_rows)
+        for rows in (*told_rows, hindered_rows, swept_rows):
             for name, is_well, told in rows(program, folder):
                 print(f"oncrpc call, {name}: {'as it should' if is_well else told}", flush=True)
                 well.append(bool(is_well))

@@ -1,5 +1,7 @@
+pub mod Addresses
 pub mod Inputs
 pub mod Numbers
+pub mod Refusals
 pub mod Sendings
 pub mod Told
 pub mod Written

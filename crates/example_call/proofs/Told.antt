@@ -1,6 +1,6 @@
 -- What is printed and said of the case of an input.
 use Rattle.std.proofs.Common.{◌≡◌, ℕ, List, [], ◌++◌, Option, Some, None, Result, Ok, Err, codes, decimal}
-use Rattle.std.proofs.Common.{ap, sym, subst}
+use Rattle.std.proofs.Common.{ap, sym, subst, arith}
 use Rattle.std.specs.Io.KnownBytes.{Appends}
 use Rattle.rpc_record.specs.declared.fault.RecordFault.TheVariants as flaw
 use Rattle.rpc_message.specs.declared.fault.ReplyFault.{ReplyFault}
@@ -10,10 +10,14 @@ use Rattle.rpc_engine.specs.declared.fault.ClientFault.{ClientFault}
 use Rattle.rpc_engine.specs.declared.fault.ClientFault.TheVariants as fault
 use Rattle.rpc_engine.specs.Exchanged.{Outcome, Replied, OtherXid, NoReply, TooLong, Truncated, IsOutcome, IsExact}
 use Rattle.rpc_engine.specs.Laws.{OneOutcome}
+use Rattle.oncrpc_answers.specs.declared.failure.Failure.{Failure}
+use Rattle.oncrpc_answers.specs.declared.failure.Failure.TheVariants as failure
+use Rattle.oncrpc_answers.specs.Status.{failure_status}
 use Rattle.oncrpc_service.specs.Infos.{reply_fault_name}
 use Rattle.oncrpc_tasks.specs.Checked.{IsSaid}
 use Rattle.oncrpc_tasks.specs.Devices.{Stream}
 use Rattle.oncrpc_call.specs.Asked.{Wanted}
+use Rattle.oncrpc_call.specs.Lines.{failure_line}
 use Rattle.oncrpc_call.specs.Replies.{Refuses, RefusesReply, Shows, ShowsReply}
 
 -- what is printed of the case
@@ -76,3 +80,11 @@ all_written text taken taken' e h = of_known text taken' (subst (λ k. Appends k
 pub said_as : {F : Type 0} (stream : Stream F) (f f' : F) (line text : List ℕ) → line ≡ text → IsSaid stream f f' line
     → IsSaid stream f f' text
 said_as stream f f' line text e s = subst (λ (l : List ℕ). IsSaid stream f f' l) e s
+
+-- status 4 is that of refused memory
+pub memory_said : {F : Type 0} (stream : Stream F) (f f' : F) (why : Failure) (status : ℕ) → status ≡ failure_status why
+    → status ≡ 4 → IsSaid stream f f' (failure_line why) → IsSaid stream f f' (codes "out of memory\n")
+memory_said stream f f' failure.NoMemory status is four s = s
+memory_said stream f f' failure.Read status is four s = absurd (omega (arith, is, four))
+memory_said stream f f' failure.Write status is four s = absurd (omega (arith, is, four))
+memory_said stream f f' failure.TooManyReads status is four s = absurd (omega (arith, is, four))

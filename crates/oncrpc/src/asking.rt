@@ -20,7 +20,19 @@ use xdr_types::{KindId, Limits};
 
 /// What texts of the system's files declare.
 pub fn declared_by(rt: &HostRuntime, types: &Texts) -> Result<Declared, Unmade> {
-    let mut opener = FileOpener::new(rt)?;
+    declared_in(rt, types, FileOpener::new(rt)?)
+}
+
+/// What texts that are installed with the program declare.
+pub fn declared_by_known(rt: &HostRuntime, types: &Texts) -> Result<Declared, Unmade> {
+    declared_in(rt, types, FileOpener::installed(rt)?)
+}
+
+fn declared_in(
+    rt: &HostRuntime,
+    types: &Texts,
+    mut opener: FileOpener<'_, HostRuntime>,
+) -> Result<Declared, Unmade> {
     match declared(rt.alloc(), types, &mut opener) {
         Ok(declared) => Ok(declared),
         Err(why) => Err(Unmade::Texts(why)),
@@ -33,7 +45,7 @@ pub fn asked_by(rt: &HostRuntime, what: &CallTask) -> Result<Asked, Unmade>
 {
     let alloc = rt.alloc();
     let declared = match known_texts(alloc, &what.types, &what.name)? {
-        Some(types) => declared_by(rt, &types)?,
+        Some(types) => declared_by_known(rt, &types)?,
         None => declared_by(rt, &what.types)?,
     };
     let Some(limits) = Limits::new(what.depth, what.bytes) else {

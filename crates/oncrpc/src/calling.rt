@@ -3,7 +3,7 @@ ghost use Rattle.std.specs.Prelude.{◌≤◌, IfOk};
 ghost use Rattle.oncrpc_call.specs.Asked.{CanBeMade};
 
 use crate::asking::asked_by;
-use crate::reaching::{call_at, places_of};
+use crate::reaching::{addresses_of, call_at, places_of};
 use crate::timed::Until;
 use crate::unmade::say_unmade;
 use crate::unreached::{Unreached, say_unreached};
@@ -40,7 +40,8 @@ fn make<O: Sink, F: Sink>(
     requires { CanBeMade asked.now }
     ensures { IfOk result (λ status. status ≤ 4) }
 {
+    let places = addresses_of(rt, peer)?;
     let until = Until::start(rt, Some(peer.timeout))?;
-    let places = places_of(rt, peer, until, asked.call.prog, asked.call.vers)?;
+    let places = places_of(places, peer, until, asked.call.prog, asked.call.vers)?;
     call_at(&places, peer, until, asked, output, faults)
 }

@@ -8,7 +8,8 @@ use xdr_io::{FromRead, ReadFault};
 /// The most bytes of the name of an installed text.
 const MOST_NAME: usize = 255;
 
-/// Opens files by their paths, and a text that is installed with the program by its name. It tells nothing of them.
+/// Opens files by their paths, and a text that is installed with the program by its name, which is one without a dot or
+/// a slash. It tells nothing of them.
 #[derive(Drop)]
 pub struct FileOpener<'a, R> {
     rt: &'a R,
@@ -16,15 +17,31 @@ pub struct FileOpener<'a, R> {
     folder: String,
     // Where a path in it is put together. Its memory is there from the start, so that an open wants none.
     path: String,
+    // Whether a name is that of an installed text alone, and no path.
+    installed: bool,
 }
 
 impl<'a, R: Files + AllocGlobal> FileOpener<'a, R> {
     /// An opener of the system's files. The error is an allocation failure.
     pub fn new(rt: &'a R) -> Result<Self, AllocError> {
+        FileOpener::of(rt, false)
+    }
+
+    /// An opener of the installed texts alone, whatever lies in the current folder. The error is an allocation failure.
+    pub fn installed(rt: &'a R) -> Result<Self, AllocError> {
+        FileOpener::of(rt, true)
+    }
+
+    fn of(rt: &'a R, installed: bool) -> Result<Self, AllocError> {
         let folder = installed_folder(rt)?;
         let most = folder.len().saturating_add(MOST_NAME + 3);
         let path = String::with_capacity(rt.alloc(), most)?;
-        Ok(FileOpener { rt, folder, path })
+        Ok(FileOpener {
+            rt,
+            folder,
+            path,
+            installed,
+        })
     }
 
     // The text NAME.x in the folder of the installed texts, where there is one.
@@ -58,15 +75,23 @@ impl<'a, R: Files + AllocGlobal> Opener for FileOpener<'a, R> {
     type Text = FromRead<R::File>;
 
     fn open(&mut self, name: &str) -> Result<FromRead<R::File>, ReadFault> {
-        if let Ok(file) = fs::open(self.rt, name) {
-            return Ok(FromRead::new(file));
-        }
-        if name.contains(['/', '.']) {
-            return Err(ReadFault);
-        }
-        match self.open_installed(name) {
+        let is_plain = !name.contains(['/', '.']);
+        let opened = if self.installed || is_plain && is_free(self.rt, name) {
+            self.open_installed(name)
+        } else {
+            fs::open(self.rt, name).ok()
+        };
+        match opened {
             Some(file) => Ok(FromRead::new(file)),
             None => Err(ReadFault),
         }
+    }
+}
+
+// Whether nothing has the name in the current folder, or a folder has it, which is no text.
+fn is_free<R: Files>(rt: &R, name: &str) -> bool {
+    match fs::metadata(rt, name) {
+        Ok(found) => found.is_dir(),
+        Err(error) => error.kind() == io::ErrorKind::NotFound,
     }
 }

@@ -3,12 +3,15 @@ use oncrpc_answers::{Dialect, Texts};
 use std::alloc::{AllocError, Global};
 
 /// Programs whose declarations are installed, by number and by the name of their text.
-const KNOWN: [(&str, &str); 5] = [
+const KNOWN: [(&str, &str); 8] = [
     ("100000", "rpcbind"),
     ("100003", "nfs"),
+    ("100004", "yp"),
     ("100005", "mount"),
+    ("100007", "ypbind"),
     ("100021", "nlm"),
     ("100024", "nsm"),
+    ("100026", "bootparam"),
 ];
 
 /// The installed text for a name that begins with a program's, where no texts are named and there is one.

@@ -2,7 +2,7 @@
 ghost use Rattle.std.specs.Prelude.{◌≤◌};
 
 use crate::reaching::{addresses, connect, open_port};
-use crate::timed::{TimedPort, TimedReader, TimedWriter, Until};
+use crate::timed::{TimedReader, TimedWriter, Until};
 use crate::unreached::say_late;
 use oncrpc_answers::{Failure, report};
 use oncrpc_service::{
@@ -13,7 +13,7 @@ use oncrpc_words::{InfoTask, ServeTask};
 use rpc_directory::Directory;
 use std::collections::hash_map::RandomState;
 use std::io;
-use std::net::TcpStream;
+use std::net::SocketAddr;
 use xdr_io::{MemorySink, Sink, write_whole};
 
 /// Asks a registry for its rows, over TCP or over UDP, and gives the exit status.
@@ -25,19 +25,15 @@ pub fn info<O: Sink, F: Sink>(
 ) -> u8
     ensures { result ≤ 4 }
 {
-    let until = match Until::start(rt, what.timeout) {
-        Ok(until) => until,
+    let (places, until) = match begin(rt, what) {
+        Ok(begun) => begun,
         Err(error) => return report_unconnected(&error, faults),
     };
     let mut said = [0u8; 256];
     let mut line = MemorySink::new(&mut said, 256, None);
-    let status = if what.udp {
-        info_by_datagram(rt, what, until, output, &mut line)
-    } else {
-        info_by_connection(rt, what, until, output, &mut line)
-    };
+    let (status, is_late) = info_at(&places, what, until, output, &mut line);
     match what.timeout {
-        Some(seconds) if status == 3 && until.is_over() => say_late(rt.alloc(), seconds, faults),
+        Some(seconds) if status == 3 && is_late => say_late(rt.alloc(), seconds, faults),
         _ => {
             let _ = write_whole(faults, line.written());
             status
@@ -45,41 +41,67 @@ pub fn info<O: Sink, F: Sink>(
     }
 }
 
-fn info_by_connection<O: Sink, F: Sink>(
-    rt: &HostRuntime,
+// The addresses of the host, and then until when is waited: the look-up of its name is not counted.
+fn begin<'a>(rt: &'a HostRuntime, what: &InfoTask) -> io::Result<(Vec<SocketAddr>, Until<'a>)> {
+    let places = addresses(rt, &what.host, what.port)?;
+    Ok((places, Until::start(rt, what.timeout)?))
+}
+
+// The exit status of what one of these addresses answers, and whether it failed because the time was up.
+fn info_at<O: Sink, F: Sink>(
+    places: &[SocketAddr],
     what: &InfoTask,
     until: Until<'_>,
     output: &mut O,
     faults: &mut F,
-) -> u8
-    ensures { result ≤ 4 }
+) -> (u8, bool)
+    ensures { result.0 ≤ 4 }
 {
-    match connect_first(rt, what, until) {
-        Ok(stream) => info_over(
-            rt.alloc(),
-            &mut TimedReader::new(until, &stream),
-            &mut TimedWriter::new(until, &stream),
-            output,
-            faults,
-            what.vers,
-        ),
-        Err(error) => report_unconnected(&error, faults),
+    if what.udp {
+        info_by_datagram(places, what.vers, until, output, faults)
+    } else {
+        info_by_connection(places, what.vers, until, output, faults)
     }
 }
 
-fn info_by_datagram<O: Sink, F: Sink>(
-    rt: &HostRuntime,
-    what: &InfoTask,
+// The same over the first address that takes a connection.
+fn info_by_connection<O: Sink, F: Sink>(
+    places: &[SocketAddr],
+    vers: u32,
     until: Until<'_>,
     output: &mut O,
     faults: &mut F,
-) -> u8
-    ensures { result ≤ 4 }
+) -> (u8, bool)
+    ensures { result.0 ≤ 4 }
 {
-    match connect_port(rt, what, until) {
-        Ok(mut port) => info_datagram(rt.alloc(), &mut port, output, faults, what.vers),
-        Err(error) => report_unconnected(&error, faults),
-    }
+    let stream = match connect(places, until) {
+        Ok(stream) => stream,
+        Err(error) => return (report_unconnected(&error, faults), until.is_why(&error)),
+    };
+    let mut reader = TimedReader::new(until, &stream);
+    let mut writer = TimedWriter::new(until, &stream);
+    let alloc = until.runtime().alloc();
+    let status = info_over(alloc, &mut reader, &mut writer, output, faults, vers);
+    (status, reader.is_late() || writer.is_late())
+}
+
+// The same over the first address to which there is a way for datagrams.
+fn info_by_datagram<O: Sink, F: Sink>(
+    places: &[SocketAddr],
+    vers: u32,
+    until: Until<'_>,
+    output: &mut O,
+    faults: &mut F,
+) -> (u8, bool)
+    ensures { result.0 ≤ 4 }
+{
+    let mut port = match open_port(places, until, true) {
+        Ok(port) => port,
+        Err(error) => return (report_unconnected(&error, faults), until.is_why(&error)),
+    };
+    let alloc = until.runtime().alloc();
+    let status = info_datagram(alloc, &mut port, output, faults, vers);
+    (status, port.is_late())
 }
 
 // The status where there is no way to the host: 4 where memory was refused, else 3.
@@ -91,20 +113,6 @@ fn report_unconnected<F: Sink>(error: &io::Error, faults: &mut F) -> u8
     } else {
         report_socket(faults)
     }
-}
-
-// A connection to the first address of the host that takes one.
-fn connect_first(rt: &HostRuntime, what: &InfoTask, until: Until<'_>) -> io::Result<TcpStream> {
-    connect(&addresses(rt, &what.host, what.port)?, until)
-}
-
-// A port for datagrams to the first address of the host to which there is a way.
-fn connect_port<'a>(
-    rt: &HostRuntime,
-    what: &InfoTask,
-    until: Until<'a>,
-) -> io::Result<TimedPort<'a>> {
-    open_port(&addresses(rt, &what.host, what.port)?, until, true)
 }
 
 /// Serves a registry on 127.0.0.1, connections over TCP and then datagrams over UDP at the same port, and gives the

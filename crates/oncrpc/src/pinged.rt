@@ -1,5 +1,5 @@
 //! The program, and the version of it, that a name means.
-use crate::asking::declared_by;
+use crate::asking::{declared_by, declared_by_known};
 use crate::known::known_texts;
 use crate::unmade::{Unmade, line};
 use oncrpc_words::PingTask;
@@ -17,7 +17,7 @@ pub struct Pinged {
 pub fn pinged_by(rt: &HostRuntime, what: &PingTask) -> Result<Pinged, Unmade> {
     let alloc = rt.alloc();
     let declared = match known_texts(alloc, &what.types, &what.name)? {
-        Some(types) if !are_numbers(&what.name) => declared_by(rt, &types)?,
+        Some(types) if !are_numbers(&what.name) => declared_by_known(rt, &types)?,
         _ => declared_by(rt, &what.types)?,
     };
     match pinged_in(&declared, &what.name) {

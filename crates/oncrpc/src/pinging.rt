@@ -2,7 +2,7 @@
 ghost use Rattle.std.specs.Prelude.{◌≤◌, IfOk};
 
 use crate::pinged::{Pinged, pinged_by};
-use crate::reaching::{call_at, places_of};
+use crate::reaching::{addresses_of, call_at, places_of};
 use crate::timed::Until;
 use crate::unmade::say_unmade;
 use crate::unreached::{Unreached, say_unreached};
@@ -48,8 +48,9 @@ fn ping_each<O: Sink, F: Sink>(
     ensures { IfOk result (λ status. status ≤ 4) }
 {
     let version = pinged.version.unwrap_or(0);
+    let places = addresses_of(rt, &what.peer)?;
     let until = Until::start(rt, Some(what.peer.timeout))?;
-    let places = places_of(rt, &what.peer, until, pinged.program, version)?;
+    let places = places_of(places, &what.peer, until, pinged.program, version)?;
     for before in 0..what.count {
         if before > 0 {
             thread::sleep(rt, Duration::from_secs(1));

@@ -3,22 +3,20 @@ ghost use Rattle.std.specs.Prelude.{◌≤◌, length};
 ghost use Rattle.rpc_message.specs.Spelling.{call as call_bytes};
 ghost use Rattle.rpc_message.specs.View.{call_view};
 
-use crate::reaching::{connect, open_port};
+use crate::reaching::{port_to, stream_to};
 use crate::timed::{TimedReader, TimedWriter, Until};
 use crate::unreached::Unreached;
-use oncrpc_call::{ask_by_datagrams, port_question};
-use registry_uaddr::read_uaddr;
+use oncrpc_call::{Transport, ask_by_datagrams, port_question, told_port};
 use rpc_engine::{ClientFault, exchange};
 use rpc_message::{Call, Reply, Status};
 use std::net::SocketAddr;
-use xdr_units::{first_content, first_word};
 
 /// How often the registry is asked over UDP, a second apart.
 const TIMES: u32 = 4294967295;
 
 /// The port of a version of a program, as the registry at this address has it. It is asked by GETADDR of version 4,
-/// then of version 3, and then by GETPORT of version 2 (RFC 1833 sections 2.2.1 and 3.2). A version that refuses the
-/// call, or has no row, leaves the question to the next.
+/// then of version 3, and over IPv4 then by GETPORT of version 2 (RFC 1833 sections 2.2.1 and 3.2). A version that
+/// refuses the call, or has no row, leaves the question to the next.
 pub fn port_of(
     until: Until<'_>,
     registry: SocketAddr,
@@ -26,11 +24,11 @@ pub fn port_of(
     program: u32,
     version: u32,
 ) -> Result<u16, Unreached> {
-    let alloc = until.runtime().alloc();
-    for asking in [4u32, 3, 2] {
-        let call = port_question(alloc, asking, program, version, udp)?;
+    let over = transport_to(registry, udp);
+    for asking in over.registries() {
+        let call = port_question(until.runtime().alloc(), *asking, program, version, over)?;
         if let Some(results) = asked(until, registry, udp, &call)? {
-            if let Some(port) = port_in(asking, &results) {
+            if let Some(port) = told_port(*asking, over, &results) {
                 return Ok(port);
             }
         }
@@ -38,30 +36,14 @@ pub fn port_of(
     Err(Unreached::Unregistered)
 }
 
-// The port that a version of the registry tells.
-fn port_in(asking: u32, results: &[u8]) -> Option<u16> {
-    if asking == 2 {
-        port_in_number(results)
-    } else {
-        port_in_address(results)
-    }
-}
-
-// The port in the text of an address, which is empty where there is no row.
-fn port_in_address(results: &[u8]) -> Option<u16> {
-    let (count, rest) = first_word(results)?;
-    let (text, _) = first_content(rest, count).ok()?;
-    match read_uaddr(text)?.port {
-        0 => None,
-        port => Some(port),
-    }
-}
-
-// A port as a number, 0 where there is no row.
-fn port_in_number(results: &[u8]) -> Option<u16> {
-    match first_word(results)? {
-        (port, _) if port > 0 && port < 65536 => Some(port as u16),
-        _ => None,
+// The transport over which an address is reached: IPv4 also where it is written within one of IPv6 (RFC 4291 section
+// 2.5.5.2).
+fn transport_to(place: SocketAddr, udp: bool) -> Transport {
+    match (place.ip().to_canonical().is_ipv4(), udp) {
+        (true, false) => Transport::Tcp,
+        (true, true) => Transport::Udp,
+        (false, false) => Transport::Tcp6,
+        (false, true) => Transport::Udp6,
     }
 }
 
@@ -75,7 +57,7 @@ fn asked_over(
     requires verf { length call.now.verf.body.items ≤ 400 }
     requires short { length (call_bytes (call_view call.now)) ≤ 2147483647 }
 {
-    let stream = connect(&[registry], until)?;
+    let stream = stream_to(&[registry], until)?;
     let mut reader = TimedReader::new(until, &stream);
     let mut writer = TimedWriter::new(until, &stream);
     Ok(exchange(until.runtime().alloc(), &mut reader, &mut writer, call))
@@ -93,7 +75,7 @@ fn asked(
     requires short { length (call_bytes (call_view call.now)) ≤ 2147483647 }
 {
     let answer = if udp {
-        let mut port = open_port(&[registry], until, false)?;
+        let mut port = port_to(&[registry], until)?;
         ask_by_datagrams(until.runtime().alloc(), &mut port, call, TIMES)
     } else {
         asked_over(until, registry, call)?

@@ -27,16 +27,20 @@ pub fn addresses(rt: &HostRuntime, host: &str, port: u16) -> io::Result<Vec<Sock
     Ok(first)
 }
 
-/// Where a version of a program may be: at each address of the host with the port that is given, or at the first whose
-/// registry answers, with the port that it tells.
+/// The addresses of a peer's host, with the port that is given, or else that of a registry.
+pub fn addresses_of(rt: &HostRuntime, peer: &Peer) -> io::Result<Vec<SocketAddr>> {
+    addresses(rt, &peer.host, peer.port.unwrap_or(111))
+}
+
+/// Where a version of a program may be: at each of these addresses of its host where a port is given, or at the first
+/// whose registry answers, with the port that it tells.
 pub fn places_of(
-    rt: &HostRuntime,
+    places: Vec<SocketAddr>,
     peer: &Peer,
     until: Until<'_>,
     program: u32,
     version: u32,
 ) -> Result<Vec<SocketAddr>, Unreached> {
-    let places = addresses(rt, &peer.host, peer.port.unwrap_or(111))?;
     if peer.port.is_some() {
         return Ok(places);
     }
@@ -45,7 +49,7 @@ pub fn places_of(
             Ok(port) => {
                 let mut place = *registry;
                 place.set_port(port);
-                return Ok(Vec::from_slice(rt.alloc(), &[place])?);
+                return Ok(Vec::from_slice(until.runtime().alloc(), &[place])?);
             }
             Err(Unreached::Socket) => {}
             Err(why) => return Err(why),
@@ -68,21 +72,54 @@ pub fn call_at<O: Sink, F: Sink>(
 {
     let mut said = [0u8; 256];
     let mut line = MemorySink::new(&mut said, 256, None);
-    let status = if peer.udp {
-        let mut port = open_port(places, until, false)?;
-        call_by_datagrams(&mut port, peer.timeout, asked, output, &mut line)?
-    } else {
-        let stream = connect(places, until)?;
-        let mut reader = TimedReader::new(until, &stream);
-        let mut writer = TimedWriter::new(until, &stream);
-        let alloc = until.runtime().alloc();
-        call_over(alloc, asked, &mut reader, &mut writer, output, &mut line)
-    };
-    if status == 3 && until.is_over() {
+    let (status, is_late) = call_in_time(places, peer, until, asked, output, &mut line)?;
+    if status == 3 && is_late {
         return Err(Unreached::Late);
     }
     let _ = write_whole(faults, line.written());
     Ok(status)
+}
+
+// The same, and whether it failed because the time was up.
+fn call_in_time<O: Sink, F: Sink>(
+    places: &[SocketAddr],
+    peer: &Peer,
+    until: Until<'_>,
+    asked: &Asked,
+    output: &mut O,
+    faults: &mut F,
+) -> Result<(u8, bool), Unreached>
+    requires { CanBeMade asked.now }
+    ensures { IfOk result (λ r. r.0 ≤ 4) }
+{
+    if peer.udp {
+        let mut port = port_to(places, until)?;
+        call_by_datagrams(&mut port, peer.timeout, asked, output, faults)
+    } else {
+        let stream = stream_to(places, until)?;
+        let mut reader = TimedReader::new(until, &stream);
+        let mut writer = TimedWriter::new(until, &stream);
+        let alloc = until.runtime().alloc();
+        let status = call_over(alloc, asked, &mut reader, &mut writer, output, faults);
+        Ok((status, reader.is_late() || writer.is_late()))
+    }
+}
+
+/// A connection to the first of these places that takes one in time, or why there is none.
+pub fn stream_to(places: &[SocketAddr], until: Until<'_>) -> Result<TcpStream, Unreached> {
+    match connect(places, until) {
+        Ok(stream) => Ok(stream),
+        Err(error) => Err(Unreached::by(&error, until)),
+    }
+}
+
+/// A port for datagrams, from which one is sent again after a second, to the first of these places to which there is a
+/// way, or why there is none.
+pub fn port_to<'a>(places: &[SocketAddr], until: Until<'a>) -> Result<TimedPort<'a>, Unreached> {
+    match open_port(places, until, false) {
+        Ok(port) => Ok(port),
+        Err(error) => Err(Unreached::by(&error, until)),
+    }
 }
 
 /// A connection to the first of these places that takes one in time.
@@ -128,14 +165,14 @@ fn call_by_datagrams<O: Sink, F: Sink>(
     asked: &Asked,
     output: &mut O,
     faults: &mut F,
-) -> Result<u8, Unreached>
+) -> Result<(u8, bool), Unreached>
     requires { CanBeMade asked.now }
-    ensures { IfOk result (λ status. status ≤ 4) }
+    ensures { IfOk result (λ r. r.0 ≤ 4) }
 {
     let alloc = port.runtime().alloc();
     let status = call_datagram(alloc, asked, seconds.max(1), port, output, faults);
     if status == 3 && port.is_closed() {
         return Err(Unreached::Socket);
     }
-    Ok(status)
+    Ok((status, port.is_late()))
 }

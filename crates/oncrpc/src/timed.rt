@@ -59,6 +59,11 @@ impl<'a> Until<'a> {
     pub fn is_over(&self) -> bool {
         self.left().is_err()
     }
+
+    /// Whether an error says that the time was up, and that is so. The system gives up a connection in its own time.
+    pub fn is_why(&self, error: &io::Error) -> bool {
+        is_of_time(error) && self.is_over()
+    }
 }
 
 // So many seconds from now, where the clock has that moment.
@@ -71,11 +76,21 @@ fn after(rt: &HostRuntime, seconds: u32) -> io::Result<Option<Instant>> {
 pub struct TimedReader<'a> {
     until: Until<'a>,
     stream: &'a TcpStream,
+    is_late: bool,
 }
 
 impl<'a> TimedReader<'a> {
     pub fn new(until: Until<'a>, stream: &'a TcpStream) -> Self {
-        TimedReader { until, stream }
+        TimedReader {
+            until,
+            stream,
+            is_late: false,
+        }
+    }
+
+    /// Whether a read failed because the time was up.
+    pub fn is_late(&self) -> bool {
+        self.is_late
     }
 
     fn read_in_time(&self, array: &mut [u8; 4096]) -> io::Result<usize>
@@ -91,7 +106,10 @@ impl Source for TimedReader<'_> {
     fn read(&mut self, array: &mut [u8; 4096]) -> Result<usize, ReadFault> {
         match self.read_in_time(array) {
             Ok(n) => Ok(n),
-            Err(_) => Err(ReadFault),
+            Err(error) => {
+                self.is_late |= self.until.is_why(&error);
+                Err(ReadFault)
+            }
         }
     }
 }
@@ -101,11 +119,21 @@ impl Source for TimedReader<'_> {
 pub struct TimedWriter<'a> {
     until: Until<'a>,
     stream: &'a TcpStream,
+    is_late: bool,
 }
 
 impl<'a> TimedWriter<'a> {
     pub fn new(until: Until<'a>, stream: &'a TcpStream) -> Self {
-        TimedWriter { until, stream }
+        TimedWriter {
+            until,
+            stream,
+            is_late: false,
+        }
+    }
+
+    /// Whether a write failed because the time was up.
+    pub fn is_late(&self) -> bool {
+        self.is_late
     }
 
     fn write_in_time(&self, piece: &[u8]) -> io::Result<usize>
@@ -121,7 +149,10 @@ impl Sink for TimedWriter<'_> {
     fn write(&mut self, piece: &[u8]) -> Result<usize, SinkFault> {
         match self.write_in_time(piece) {
             Ok(n) => Ok(n),
-            Err(_) => Err(SinkFault),
+            Err(error) => {
+                self.is_late |= self.until.is_why(&error);
+                Err(SinkFault)
+            }
         }
     }
 }
@@ -134,6 +165,7 @@ pub struct TimedPort<'a> {
     once: bool,
     socket: UdpSocket,
     is_closed: bool,
+    is_late: bool,
 }
 
 impl<'a> TimedPort<'a> {
@@ -150,12 +182,18 @@ impl<'a> TimedPort<'a> {
             once,
             socket,
             is_closed: false,
+            is_late: false,
         })
     }
 
     /// Whether a receive failed otherwise than by its time, as where nobody has the port. Nothing is sent from then on.
     pub fn is_closed(&self) -> bool {
         self.is_closed
+    }
+
+    /// Whether the last receive, or a send behind it, failed because the time was up.
+    pub fn is_late(&self) -> bool {
+        self.is_late
     }
 
     /// What waits.
@@ -191,8 +229,12 @@ fn is_of_time(error: &io::Error) -> bool {
 impl DatagramPort for TimedPort<'_> {
     fn receive(&mut self, array: &mut [u8; 65536]) -> Result<u32, PortFault> {
         match self.receive_in_time(array) {
-            Ok(n) => Ok(n as u32),
+            Ok(n) => {
+                self.is_late = false;
+                Ok(n as u32)
+            }
             Err(error) => {
+                self.is_late = self.until.is_why(&error);
                 self.is_closed |= !is_of_time(&error);
                 Err(PortFault)
             }
@@ -205,7 +247,10 @@ impl DatagramPort for TimedPort<'_> {
         }
         match self.send_in_time(datagram) {
             Ok(_) => Ok(()),
-            Err(_) => Err(PortFault),
+            Err(error) => {
+                self.is_late = self.until.is_why(&error);
+                Err(PortFault)
+            }
         }
     }
 }

@@ -1,6 +1,7 @@
 //! Why there is no way to a program, or no answer from it in time.
 ghost use Rattle.std.specs.Prelude.{◌≤◌};
 
+use crate::timed::Until;
 use oncrpc_answers::{Failure, report};
 use oncrpc_service::report_socket;
 use oncrpc_tasks::say_line;
@@ -23,11 +24,21 @@ pub enum Unreached {
     NoMemory,
 }
 
+impl Unreached {
+    /// Why a socket that was waited for until then has failed.
+    pub fn by(error: &io::Error, until: Until<'_>) -> Unreached {
+        match error.kind() {
+            io::ErrorKind::OutOfMemory => Unreached::NoMemory,
+            _ if until.is_why(error) => Unreached::Late,
+            _ => Unreached::Socket,
+        }
+    }
+}
+
 impl From<io::Error> for Unreached {
     fn from(error: io::Error) -> Unreached {
         match error.kind() {
             io::ErrorKind::OutOfMemory => Unreached::NoMemory,
-            io::ErrorKind::TimedOut => Unreached::Late,
             _ => Unreached::Socket,
         }
     }

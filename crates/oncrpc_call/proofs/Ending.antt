@@ -13,7 +13,8 @@ use Rattle.oncrpc_service.proofs.Ending.{not_done, three_or_four}
 use Rattle.oncrpc_tasks.specs.Checked.{IsSaid}
 use Rattle.oncrpc_tasks.specs.Devices.{Stream}
 use Rattle.oncrpc_call.specs.Asked.{Wanted}
-use Rattle.oncrpc_call.specs.CallEnds.{AnswerEnds, DeviceFails, Prints}
+use Rattle.oncrpc_call.specs.CallEnds.{AnswerEnds, DeviceFails, FailureSaid, Prints}
+use Rattle.oncrpc_call.specs.Lines.{failure_line}
 use Rattle.oncrpc_call.specs.Replies.{Refuses, Shows}
 
 -- an answer of which something is shown or said is no failure
@@ -49,11 +50,28 @@ owed o f status e (inl own) g some = absurd (cc (own.1, some))
 owed o f status e (inr is) g some =
     let same : f ≡ g = cc (is, some) in e ∙ ap failure_status same
 
+-- the line of a write that failed under a result was said
+write_said : {F : Type 0} (answer : Result Reply ClientFault) (stream : Stream F) (faults faults' : F) (status : ℕ)
+    → failure_of answer ≡ None → status ≡ 3 → IsSaid stream faults faults' (failure_line failure.Write)
+    → FailureSaid answer stream faults faults' status
+write_said answer stream faults faults' status none three said =
+    record { why = failure.Write; ended = inr (none, inr refl); status_is = three; said = said }
+
+-- the line of what failed before anything was printed was said
+failure_said : {F : Type 0} (answer : Result Reply ClientFault) (stream : Stream F) (faults faults' : F)
+    (f : Failure) (status : ℕ) → status ≡ failure_status f
+    → ((f ≡ failure.NoMemory) × (failure_of answer ≡ None)) ⊎ (failure_of answer ≡ Some f)
+    → IsSaid stream faults faults' (failure_line f) → FailureSaid answer stream faults faults' status
+failure_said answer stream faults faults' f status e (inl own) said =
+    record { why = f; ended = inr (own.1, inl own.0); status_is = e; said = said }
+failure_said answer stream faults faults' f status e (inr is) said =
+    record { why = f; ended = inl is; status_is = e; said = said }
+
 module _ {O F : Type 0} (w : Wanted) (answer : Result Reply ClientFault) (taken : O → Option (List ℕ))
     (lost : O → Option ℕ) (stream : Stream F) where
   -- a result was printed, or its beginning
   pub value_ends : (output output' : O) (faults faults' : F) (text : List ℕ) (status : ℕ) → Shows w answer text
-      → Prints text taken lost output output' faults faults' status
+      → Prints text taken lost stream output output' faults faults' status
       → AnswerEnds w answer taken lost stream output output' faults faults' status
   value_ends output output' faults faults' text status shows p =
       let known = p.known in
@@ -69,6 +87,8 @@ module _ {O F : Type 0} (w : Wanted) (answer : Result Reply ClientFault) (taken 
         unprinted = λ one. absurd (omega (arith, known, one));
         device = λ three. inr (record { text = text; shows = shows; begun = p.cut three }, p.failed three);
         wanting = λ four. absurd (omega (arith, known, four));
+        told = λ low. let three : status ≡ 3 = omega (arith, known, low) in
+            write_said answer stream faults faults' status (shown_well w answer text shows) three (p.told three);
         failed = owed_none (failure_of answer) status (shown_well w answer text shows);
       }
 
@@ -85,6 +105,7 @@ module _ {O F : Type 0} (w : Wanted) (answer : Result Reply ClientFault) (taken 
     unprinted = λ same. refl;
     device = λ three. absurd (omega (arith, three, one));
     wanting = λ four. absurd (omega (arith, four, one));
+    told = λ low. absurd (omega (arith, low, one));
     failed = owed_none (failure_of answer) status (refused_well w answer line refuses);
   }
 
@@ -98,8 +119,9 @@ module _ {O F : Type 0} (w : Wanted) (answer : Result Reply ClientFault) (taken 
   -- a device failed, or memory was refused, before anything was printed
   pub failure_ends : (output : O) (faults faults' : F) (f : Failure) (status : ℕ) → status ≡ failure_status f
       → ((f ≡ failure.NoMemory) × (failure_of answer ≡ None)) ⊎ (failure_of answer ≡ Some f)
+      → IsSaid stream faults faults' (failure_line f)
       → AnswerEnds w answer taken lost stream output output faults faults' status
-  failure_ends output faults faults' f status e why =
+  failure_ends output faults faults' f status e why said =
       let low : (k : ℕ) → status ≡ k → k ≤ 1 → ⊥ = λ k is small. not_done f status e (omega (arith, is, small)) in
       record {
         known = inr (three_or_four f status e);
@@ -110,5 +132,6 @@ module _ {O F : Type 0} (w : Wanted) (answer : Result Reply ClientFault) (taken 
         unprinted = λ one. absurd (low 1 one (omega arith));
         device = λ three. device_failed output f status e why three;
         wanting = λ four. refl;
+        told = λ low. failure_said answer stream faults faults' f status e why said;
         failed = owed (failure_of answer) f status e why;
       }

@@ -1,6 +1,10 @@
 pub mod Alone
 pub mod Behind
+pub mod Dots
 pub mod Ending
 pub mod Judged
+pub mod OneLine
 pub mod Passing
+pub mod Ports
+pub mod Short
 pub mod Telling

@@ -12,8 +12,7 @@ use Rattle.rpc_engine.specs.DatagramExchange.{Replies}
 use Rattle.rpc_engine.specs.Exchanged.{read_failures, write_failures}
 use Rattle.rpc_engine.specs.Ports.{Reported, Receives, Sends}
 use Rattle.rpc_engine.proofs.Ports.{Receives-none, Receives-trans, Sends-trans}
-use Rattle.oncrpc_call.specs.Datagrams.{Answered, IsAnswer, IsOther, PassesOver, unanswered}
-use Rattle.oncrpc_call.specs.declared.datagrams.TheConstants.{MOST_PASSED}
+use Rattle.oncrpc_call.specs.Datagrams.{Answered, IsAnswer, IsOther, PassesOver, most_passed, unanswered}
 
 all_others : (xid : ℕ) (ps qs : List (List ℕ)) → AllByRecursion (IsOther xid) ps → AllByRecursion (IsOther xid) qs
     → AllByRecursion (IsOther xid) (ps ++ qs)
@@ -154,7 +153,7 @@ failed_at xid a b c ps p none =
     record { passed = ps; before = b; over = p; answered = none; many = λ e. cc }
 
 -- too many replies to other calls
-pub too_many_at : (xid : ℕ) (a b : Reported) (ps : List (List ℕ)) → PassesOver xid a b ps → MOST_PASSED ≤ length ps
+pub too_many_at : (xid : ℕ) (a b : Reported) (ps : List (List ℕ)) → PassesOver xid a b ps → most_passed ≤ length ps
     → Answered xid a b (Err fault.TooManyReads)
 too_many_at xid a b ps p most =
     record { passed = ps; before = b; over = p; answered = Receives-none b; many = λ e. most }

@@ -1,11 +1,16 @@
 -- The call that a name and arguments ask for (RFC 5531 sections 9 and 12.3).
-use Rattle.std.specs.Prelude.{◌≡◌, ◌⊎◌, ℕ, ◌<◌, ◌≤◌, List, [], ◌∷◌, ◌++◌, length, Option, None, Some, ⊤}
+use Rattle.std.specs.Prelude.{◌≡◌, ◌≢◌, ◌⊎◌, ℕ, ◌<◌, ◌≤◌, List, [], ◌∷◌, ◌++◌, length, take, slice_index, Option}
+use Rattle.std.specs.Prelude.{None, Some, ⊤}
 use Rattle.std.specs.List.{AllByRecursion}
 use Rattle.xdr_types.specs.Kinds.{KindView}
 use Rattle.xdr_types.specs.Named.{basic}
 use Rattle.xdr_types.specs.Spelling.{bytes_of}
 use Rattle.xdr_types.specs.Tree.{Tree}
 use Rattle.xdr_types.specs.Within.{Bounds, FitsWithin}
+use Rattle.xdr_stream.specs.Finish.{EndsWith}
+use Rattle.xdr_stream.specs.declared.fault.DecodeFault.{DecodeFault}
+use Rattle.xdr_stream.specs.declared.fault.Reason.TheVariants as reason
+use Rattle.xdr_codec.specs.Refused.{HasNoneWithin, IsRefused}
 use Rattle.xdr_lang.specs.Declarations.{Declared}
 use Rattle.rpc_message.specs.Message.{AuthView, CallView}
 use Rattle.rpc_message.specs.View.{auth_view, call_view}
@@ -16,7 +21,6 @@ use Rattle.oncrpc_call.specs.declared.asked.Asked.{Asked}
 use Rattle.oncrpc_call.specs.declared.asked.Form.{Form}
 use Rattle.oncrpc_call.specs.declared.asked.Form.TheVariants as form
 use Rattle.oncrpc_call.specs.declared.asking.Terms as declared
-use Rattle.oncrpc_call.specs.declared.asking.TheConstants.{MOST_ARGUMENTS}
 use Rattle.oncrpc_call.specs.declared.unasked.Unasked.{Unasked}
 use Rattle.oncrpc_call.specs.declared.unasked.Unasked.TheVariants as unasked
 
@@ -34,15 +38,48 @@ AreArguments kinds (k ∷ ks) limits bytes =
 abbrev pub AreKinds : List KindView → (places : List ℕ) → Type 0
 AreKinds kinds places = AllByRecursion (λ k. k < length kinds) places
 
+-- The bytes begin with arguments of the first so many kinds, and these are left behind them.
+pub record Leaves (kinds : List KindView) (places : List ℕ) (limits : Bounds) (bytes : List ℕ) (at : ℕ)
+    (rest : List ℕ) : Type 0 where
+  pub before : List ℕ
+  pub judged : AreArguments kinds (take at places) limits before
+  pub joined : bytes ≡ before ++ rest
+
+-- The argument with this number, from 0, is refused: no value of its kind within the limits begins what the arguments
+-- before it leave, for the reason and at the place of the outcome there.
+pub record RefusesArgument (kinds : List KindView) (places : List ℕ) (limits : Bounds) (bytes : List ℕ) (at : ℕ)
+    (f : DecodeFault) : Type 0 where
+  pub rest : List ℕ
+  pub behind : Leaves kinds places limits bytes at rest
+  pub within : at < length places
+  pub known : f.why ≢ reason.NoMemory
+  pub ends : EndsWith kinds (slice_index places at) limits rest f
+  pub none : IsRefused (HasNoneWithin kinds (slice_index places at) limits) f.why rest
+  pub place : f.at ≤ length rest
+
+-- So many bytes follow the last argument, at least one.
+pub record FollowsLast (kinds : List KindView) (places : List ℕ) (limits : Bounds) (bytes : List ℕ) (count : ℕ)
+    : Type 0 where
+  pub rest : List ℕ
+  pub behind : Leaves kinds places limits bytes (length places) rest
+  pub many : count ≡ length rest
+  pub some : 0 < count
+
 -- why bytes are no arguments; where memory was refused, or a place is that of no kind, that is not known
 abbrev pub AreRefused : List KindView → (places : List ℕ) → Bounds → (bytes : List ℕ) → Unasked → Type 0
-AreRefused kinds places limits bytes (unasked.Argument at f) = AreArguments kinds places limits bytes → ⊥
-AreRefused kinds places limits bytes (unasked.Follows count) = AreArguments kinds places limits bytes → ⊥
+AreRefused kinds places limits bytes (unasked.Argument at f) =
+    RefusesArgument kinds places limits bytes at f × (AreArguments kinds places limits bytes → ⊥)
+AreRefused kinds places limits bytes (unasked.Follows count) =
+    FollowsLast kinds places limits bytes count × (AreArguments kinds places limits bytes → ⊥)
 AreRefused kinds places limits bytes unasked.Kind = AreKinds kinds places → ⊥
 AreRefused kinds places limits bytes unasked.NoMemory = ⊤
 AreRefused kinds places limits bytes _ = ⊥
 
 -- ---- the call
+
+-- the most bytes of the arguments of a call
+abbrev pub most_arguments : ℕ
+most_arguments = 16777216
 
 -- what a caller chooses
 pub record Terms : Type 0 where
@@ -75,7 +112,7 @@ IsResultKind kinds (Some k) own place = (own ≡ kinds) × (place ≡ k)
 pub record AsksFor (name : List ℕ) (d : Declared) (args : List ℕ) (terms : Terms) (asked : Asked) : Type 0 where
   pub target : Target
   pub named : Names name d.programs target
-  pub short : length args ≤ MOST_ARGUMENTS
+  pub short : length args ≤ most_arguments
   pub judged : AreArguments d.schema.kinds target.procedure.arguments terms.limits args
   pub call_is : call_view asked.call ≡ call_for target terms.xid terms.cred args
   pub result_is : IsResultKind d.schema.kinds target.procedure.result asked.schema.kinds asked.result.place
@@ -116,6 +153,6 @@ pub record Mismatches (name : List ℕ) (d : Declared) (args : List ℕ) (limits
 -- why nothing is asked
 abbrev pub AsksNothing : (name : List ℕ) → Declared → (args : List ℕ) → Bounds → Unasked → Type 0
 AsksNothing name d args limits (unasked.Name why) = NamesNone name d.programs why
-AsksNothing name d args limits unasked.TooLong = MOST_ARGUMENTS < length args
+AsksNothing name d args limits unasked.TooLong = most_arguments < length args
 AsksNothing name d args limits unasked.NoMemory = ⊤
 AsksNothing name d args limits why = Mismatches name d args limits why

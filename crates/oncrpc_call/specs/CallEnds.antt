@@ -1,5 +1,5 @@
 -- How asking a server by one call ends.
-use Rattle.std.specs.Prelude.{◌≡◌, ◌⊎◌, ℕ, ◌≤◌, List, Option, Some, Result, Err}
+use Rattle.std.specs.Prelude.{◌≡◌, ◌⊎◌, ℕ, ◌≤◌, List, Option, None, Some, Result, Err}
 use Rattle.std.specs.Io.KnownBytes.{Appends}
 use Rattle.xdr_io.specs.Reported.{Counts, CountsAtMost}
 use Rattle.xdr_io.specs.declared.input.TheConstants.{MOST_READS}
@@ -10,6 +10,7 @@ use Rattle.rpc_engine.specs.declared.fault.ClientFault.{ClientFault}
 use Rattle.rpc_engine.specs.declared.fault.ClientFault.TheVariants as fault
 use Rattle.rpc_engine.specs.Exchanged.{Exchanged, IsExact, Wrote, read_failures, write_failures}
 use Rattle.oncrpc_answers.specs.declared.failure.Failure.{Failure}
+use Rattle.oncrpc_answers.specs.declared.failure.Failure.TheVariants as failure
 use Rattle.oncrpc_answers.specs.Status.{failure_status}
 use Rattle.oncrpc_service.specs.DatagramEnds.{Desk}
 use Rattle.oncrpc_service.specs.InfoEnds.{Line}
@@ -20,6 +21,7 @@ use Rattle.oncrpc_tasks.specs.Devices.{Stream}
 use Rattle.oncrpc_call.specs.declared.asked.Asked.{Asked}
 use Rattle.oncrpc_call.specs.Asked.{Wanted, wanted_of}
 use Rattle.oncrpc_call.specs.Datagrams.{AsksByDatagrams}
+use Rattle.oncrpc_call.specs.Lines.{failure_line}
 use Rattle.oncrpc_call.specs.Replies.{Refuses, Shows}
 
 -- The result of an answer was printed, and nothing else.
@@ -49,9 +51,23 @@ DeviceFails w answer unprinted taken taken' lost lost' =
     (((f : Failure) × (failure_of answer ≡ Some f)) × unprinted)
     ⊎ (PrintedInPart w answer taken taken' × Counts 1 lost lost')
 
+-- what ended a call that has no result and no line of a reply: the exchange's failure, and where it had none the memory
+-- or the write of what is printed
+abbrev pub EndedBy : Result Reply ClientFault → Failure → Type 0
+EndedBy answer f =
+    (failure_of answer ≡ Some f) ⊎ ((failure_of answer ≡ None) × ((f ≡ failure.NoMemory) ⊎ (f ≡ failure.Write)))
+
+-- The line of what ended the call was said, as far as the stream of faults took it, and the status is its own.
+pub record FailureSaid {F : Type 0} (answer : Result Reply ClientFault) (stream : Stream F) (faults faults' : F)
+    (status : ℕ) : Type 0 where
+  pub why : Failure
+  pub ended : EndedBy answer why
+  pub status_is : status ≡ failure_status why
+  pub said : IsSaid stream faults faults' (failure_line why)
+
 -- What the status says of an answer: 0 its result was printed; 1 it has none, which is said; 3 a device failed; 4
--- memory was refused. But for 0, and for 3 where a write failed, nothing was printed. What ended the exchange, if
--- something did, is what the status says.
+-- memory was refused, each of which is said. But for 0, and for 3 where a write failed, nothing was printed. What ended
+-- the exchange, if something did, is what the status says.
 pub record AnswerEnds {O F : Type 0} (w : Wanted) (answer : Result Reply ClientFault) (taken : O → Option (List ℕ))
     (lost : O → Option ℕ) (stream : Stream F) (output output' : O) (faults faults' : F) (status : ℕ) : Type 0 where
   pub known : (status ≤ 1) ⊎ ((status ≡ 3) ⊎ (status ≡ 4))
@@ -63,6 +79,7 @@ pub record AnswerEnds {O F : Type 0} (w : Wanted) (answer : Result Reply ClientF
   pub device : status ≡ 3 → DeviceFails w answer (output' ≡ output) (taken output) (taken output')
       (lost output) (lost output')
   pub wanting : status ≡ 4 → output' ≡ output
+  pub told : 3 ≤ status → FailureSaid answer stream faults faults' status
   pub failed : (f : Failure) → failure_of answer ≡ Some f → status ≡ failure_status f
 
 -- The call was made over a connection, and this is what was written, read and printed.
@@ -90,10 +107,11 @@ pub record DatagramCallEnds {P O F : Type 0} (asked : Asked) (times : ℕ) (desk
 
 -- what printing a text did, by the status
 pub record Prints {O F : Type 0} (text : List ℕ) (taken : O → Option (List ℕ)) (lost : O → Option ℕ)
-    (output output' : O) (faults faults' : F) (status : ℕ) : Type 0 where
+    (stream : Stream F) (output output' : O) (faults faults' : F) (status : ℕ) : Type 0 where
   pub known : (status ≡ 0) ⊎ (status ≡ 3)
   pub written : status ≡ 0 → Appends (taken output) (taken output') text
   pub unlost : status ≡ 0 → Counts 0 (lost output) (lost output')
   pub silent : status ≡ 0 → faults' ≡ faults
   pub cut : status ≡ 3 → InPart text (taken output) (taken output')
   pub failed : status ≡ 3 → Counts 1 (lost output) (lost output')
+  pub told : status ≡ 3 → IsSaid stream faults faults' (failure_line failure.Write)

@@ -9,12 +9,15 @@ use Rattle.rpc_engine.specs.DatagramExchange.{IsMessageCase, OtherReply, Replies
 use Rattle.rpc_engine.specs.Exchanged.{read_failures, write_failures}
 use Rattle.rpc_engine.specs.Ports.{Reported, Receives, Sends}
 use Rattle.oncrpc_service.specs.Datagrams.{Reporting}
-use Rattle.oncrpc_call.specs.declared.datagrams.TheConstants.{MOST_PASSED}
 
 -- what a port tells of itself
 abbrev pub report_of : {P : Type 0} → (left sent : P → Reported) → (unreceived unsent : P → Option ℕ) → P → Reporting
 report_of left sent unreceived unsent p =
     record { left = left p; sent = sent p; unreceived = unreceived p; unsent = unsent p }
+
+-- how many replies to other calls are passed over after each sending
+abbrev pub most_passed : ℕ
+most_passed = 1048576
 
 -- a reply to another call than that with this xid
 abbrev pub IsOther : (xid : ℕ) → (message : List ℕ) → Type 0
@@ -42,7 +45,7 @@ pub record Answered (xid : ℕ) (left left' : Reported) (answer : Result Reply C
   pub before : Reported
   pub over : PassesOver xid left before passed
   pub answered : IsAnswer xid before left' answer
-  pub many : answer ≡ Err fault.TooManyReads → MOST_PASSED ≤ length passed
+  pub many : answer ≡ Err fault.TooManyReads → most_passed ≤ length passed
 
 -- how many receives failed where a call was sent so many times: after each sending one, but for the last, of which the
 -- answer speaks

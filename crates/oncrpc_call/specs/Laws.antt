@@ -12,3 +12,8 @@ OneEnding = (w : Wanted) (results text line : List ℕ) → ShowsResults w resul
 abbrev pub OneText : Type 0
 OneText = (w : Wanted) (results text other : List ℕ) → ShowsResults w results text → ShowsResults w results other
     → text ≡ other
+
+-- What is said of results that are refused is one line.
+abbrev pub OneLine : Type 0
+OneLine = (w : Wanted) (results line other : List ℕ) → RefusesResults w results line
+    → RefusesResults w results other → line ≡ other

@@ -4,6 +4,7 @@ pub mod CallEnds
 pub mod Datagrams
 pub mod Laws
 pub mod Lines
+pub mod Ports
 pub mod Private
 pub mod Questions
 pub mod Replies

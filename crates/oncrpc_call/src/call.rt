@@ -7,8 +7,9 @@ ghost use Rattle.oncrpc_tasks.specs.Checked.{IsSaid};
 
 use crate::asked::Asked;
 use crate::datagrams::ask_by_datagrams;
+use crate::failing::say_failure;
 use crate::page::{Page, page_of};
-use oncrpc_answers::{Failure, report};
+use oncrpc_answers::Failure;
 use rpc_engine::{ClientFault, DatagramPort, exchange};
 use rpc_message::Reply;
 use std::alloc::Global;
@@ -86,7 +87,7 @@ fn end_with<O: Sink, F: Sink>(
 {
     let page = match page_of(alloc, asked, answer) {
         Ok(page) => page,
-        Err(failure) => return report(failure, faults),
+        Err(failure) => return say_failure(failure, faults),
     };
     match page {
         Page::Value(text) => print_value(&text, output, faults),
@@ -96,11 +97,12 @@ fn end_with<O: Sink, F: Sink>(
 
 // Prints a value, and gives the status.
 fn print_value<O: Sink, F: Sink>(text: &[u8], output: &mut O, faults: &mut F) -> u8
-    ensures { Prints text.now O.taken O.failures output.old output.new faults.old faults.new result }
+    ensures { Prints text.now O.taken O.failures (record { taken = F.taken; lost = F.failures })
+        output.old output.new faults.old faults.new result }
 {
     match write_whole(output, text) {
         Ok(()) => 0,
-        Err(_cut) => report(Failure::Write, faults),
+        Err(_cut) => say_failure(Failure::Write, faults),
     }
 }
 

@@ -5,8 +5,10 @@
 //!   result.
 //! - `datagrams`: a call that is sent again while no reply comes. `asking`: the call that a name and arguments ask for.
 //! - `arguments`: bytes judged as arguments. `unasked`: why nothing is asked.
-//! - `page`: what is printed of a reply. `results`: what results are. `refusal`: the lines of other replies.
-//! - `null`: the call of procedure 0. `question`: that for a port. `laws`: what follows from the definitions.
+//! - `page`: what is printed of a reply. `results`: what results are. `refusal`: the lines of other replies. `failing`:
+//!   those of devices and of memory.
+//! - `null`: the call of procedure 0. `question`: that for a port, over a `transport`. `port`: the port that is told,
+//!   over IPv6 by the text of `uaddr6`. `laws`: what follows from the definitions.
 #![tactic(auto)]
 
 mod arguments;
@@ -14,12 +16,16 @@ mod asked;
 mod asking;
 mod call;
 mod datagrams;
+mod failing;
 mod laws;
 mod null;
 mod page;
+mod port;
 mod question;
 mod refusal;
 mod results;
+mod transport;
+mod uaddr6;
 mod unasked;
 
 pub use arguments::judge_arguments;
@@ -29,5 +35,7 @@ pub use call::{call_datagram, call_over};
 pub use datagrams::{MOST_PASSED, ask_by_datagrams};
 pub use laws::results_have_one_ending;
 pub use null::ask_null;
+pub use port::told_port;
 pub use question::port_question;
+pub use transport::Transport;
 pub use unasked::Unasked;

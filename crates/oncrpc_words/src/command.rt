@@ -188,6 +188,8 @@ fn setting<'a>(alloc: Global, id: &'a str, value: &'a str, help: &'a str) -> Arg
 fn parsed<'a>(arg: Arg<'a>, taken: &Taken) -> Arg<'a> {
     match taken {
         Taken::Text => arg,
+        // (JSON may be a number below 0, which is no option)
+        Taken::Json => arg.allow_negative_numbers(true),
         Taken::Dialect => arg.value_parser(DIALECTS.as_slice()),
         Taken::Port => arg.value_parser(value_parser!(u16)),
         Taken::Number => arg.value_parser(value_parser!(u32)),

@@ -143,7 +143,7 @@ or P.V.N.result, its result";
 
 /// The option for a file of declarations.
 pub const TYPES: &str =
-    "A file of declarations in the XDR language, of at most 262144 bytes, or mount, nfs, nlm, nsm or rpcbind.
+    "A file of declarations in the XDR language, of at most 262144 bytes, or the name of an installed one, as mount.
 More than one are one text in their order, and what is refused then has its file";
 
 /// The option for a dialect.

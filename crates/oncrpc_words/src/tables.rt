@@ -4,6 +4,7 @@ use super::help;
 /// What the value of a word has to be.
 pub enum Taken {
     Text,
+    Json,
     Dialect,
     Port,
     Number,
@@ -101,7 +102,7 @@ pub const OF_CALL: [Word; 19] = [
     Word::Repeated("types", "FILE", help::TYPES, Taken::Text, &[]),
     Word::Beside("dialect", "DIALECT", help::DIALECT, Taken::Dialect, "types"),
     Word::Repeated("define", "NAME", help::DEFINE, Taken::Text, &["dialect"]),
-    Word::Optional("arguments", "JSON", help::ARGUMENTS, Taken::Text, &[]),
+    Word::Optional("arguments", "JSON", help::ARGUMENTS, Taken::Json, &[]),
     Word::Optional("port", "N", help::PROGRAM_PORT, Taken::Port, &[]),
     Word::Flag("udp", help::UDP_ASKED),
     Word::Optional("timeout", "SECONDS", help::TIMEOUT, Taken::Seconds, &["10"]),

@@ -6,8 +6,8 @@ use Rattle.oncrpc_call.proofs.call.end_with.Goals as goal
 
 pub returns-in-Err : goal.returns-in-Err
 returns-in-Err g c =
-    failure_ends (wanted_of c.args.asked.now) c.args.answer _ _ _ _ _ _ c.in-Err.failure _ c.report.ensures
-    c.in-Err.ensures.failed
+    failure_ends (wanted_of c.args.asked.now) c.args.answer _ _ _ _ _ _ c.in-Err.failure _
+    c.say_failure.ensures.status c.in-Err.ensures.failed c.say_failure.ensures.said
 
 pub returns-in-Value : goal.returns-in-Value
 returns-in-Value g c =

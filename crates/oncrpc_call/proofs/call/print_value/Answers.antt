@@ -10,11 +10,12 @@ returns-in-Ok g c = record {
   silent = λ zero. refl;
   cut = λ three. absurd (omega (arith, three));
   failed = λ three. absurd (omega (arith, three));
+  told = λ three. absurd (omega (arith, three));
 }
 
 pub returns-in-Err : goal.returns-in-Err
 returns-in-Err g c =
-    let status = c.report.ensures in
+    let status = c.say_failure.ensures.status in
     record {
       known = inr status;
       written = λ zero. absurd (omega (arith, status, zero));
@@ -26,4 +27,5 @@ returns-in-Err g c =
         written = c.in-Err.ensures.cut.1;
       };
       failed = λ three. c.in-Err.ensures.one_failed;
+      told = λ three. c.say_failure.ensures.said;
     }
