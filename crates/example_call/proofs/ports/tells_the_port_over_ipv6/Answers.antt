@@ -8,4 +8,4 @@ pub returns : goal.returns
 returns c =
     c.told_port.ensures.only 2049
     (subst (λ (bytes : List ℕ). TellsPort 4 over.Tcp6 bytes 2049) (sym c.requires)
-    (over_ipv6 c.new-_host.result c.new-_host.ensures))
+    (over_ipv6 c.new-host.result c.new-host.ensures))
