@@ -105,7 +105,7 @@ _oncrpc() {
         --idle) : ;;
         --count) : ;;
         --datagrams) : ;;
-        *) mapfile -t COMPREPLY < <(compgen -W "--port --bind --connections --idle --verbose --count --datagrams --help" -- "$word") ;;
+        *) mapfile -t COMPREPLY < <(compgen -W "--port --bind --connections --idle --verbose --insecure --count --datagrams --help" -- "$word") ;;
         esac
         ;;
     esac

@@ -1,6 +1,6 @@
 -- The record of a call of version 3 of RPC, cut in two.
 use Rattle.std.proofs.Common.{◌≡◌, ◌⊎◌, inl, inr, ℕ, true, List, [], ◌∷◌, ◌++◌, length, take, drop}
-use Rattle.std.proofs.Common.{Option}
+use Rattle.std.proofs.Common.{Option, false, ◌||◌, get_or}
 use Rattle.std.proofs.Common.{IfOk, IfErr}
 use Rattle.std.proofs.Common.{Some, Result, Ok, Err, refl, sym, ap, ◌∙◌, subst, append_assoc, arith, length-append}
 use Rattle.std.proofs.lemmas.List.{append-nil, take-append-drop}
@@ -9,16 +9,19 @@ use Rattle.registry_rows.specs.Ports.{tcp}
 use Rattle.rpc_record.specs.Marked.{header, fragment, normal, Longest}
 use Rattle.rpc_record.proofs.Longest.{Marked-same}
 use Rattle.rpc_record.proofs.Streams.{Marked-one}
-use Rattle.rpc_message.specs.Spelling.{reply}
+use Rattle.rpc_message.specs.Spelling.{reply, CallBytes}
 use Rattle.rpc_engine.specs.Run.{listed}
 use Rattle.rpc_engine.specs.Served.{most_record}
-use Rattle.registry_answer.specs.Answer.{Answer}
+use Rattle.rpc_message.specs.Message.{CallView}
+use Rattle.registry_callers.specs.Asking.{is_change, is_look_up}
+use Rattle.registry_callers.specs.From.{AnswerFrom}
+use Rattle.registry_callers.specs.Laws.{OthersAreAsEver}
 use Rattle.registry_answer.specs.Laws.{OneAnswer}
 use Rattle.registry_sessions.specs.declared.fault.SessionFault.{SessionFault}
 use Rattle.registry_sessions.specs.declared.fault.Taken.{Taken}
 use Rattle.registry_sessions.specs.declared.fault.Taken.TheVariants as taken
 use Rattle.registry_sessions.specs.declared.session.Session.{Session}
-use Rattle.registry_sessions.specs.Represents.{HasRead, Holds, Takes, Breaks, output_of}
+use Rattle.registry_sessions.specs.Represents.{HasRead, Holds, Takes, Breaks, caller_of, output_of}
 use Rattle.example_sessions.proofs.Replies.{version_3, mismatch, refusal, mismatched}
 
 abbrev pub first_piece : List ℕ
@@ -76,7 +79,11 @@ only_record m bytes rest h e =
         empty [] z = refl
         empty (x ∷ xs) z = absurd (omega (arith, z))
 
-module _ (one : OneAnswer) (start next last : Session) (rows mid after : List Row) where
+-- a call of version 3 of RPC is none of version 2
+no_call : (c : CallView) → CallBytes c version_3 → (is_change c || is_look_up c) ≡ false
+no_call c h = let f : 3 ≡ 2 = ap (λ (l : List ℕ). get_or l 11 0) h.parts in absurd (omega (arith, f))
+
+module _ (one : OneAnswer) (others : OthersAreAsEver) (start next last : Session) (rows mid after : List Row) where
   -- the record is whole with the second piece, and it is answered
   pub answered : (used : ℕ) → HasRead start [] [] → Holds start [] 0
       → Takes start next tcp rows mid first_piece taken.More
@@ -94,7 +101,8 @@ module _ (one : OneAnswer) (start next last : Session) (rows mid after : List Ro
       let is_call = (only_record a.message bytes (drop used second_piece) (longest bytes (a.message ∷ []) whole)
       joined).0 in
       let said = mismatched one mid after a.refused a.sent
-      (subst (λ m. Answer mid tcp m a.refused after a.sent) is_call a.answer) in
+      (others (caller_of next) mid after tcp version_3 a.refused a.sent no_call
+      (subst (λ m. AnswerFrom (caller_of next) mid tcp m a.refused after a.sent) is_call a.answer)) in
       (said.0 ∙ first.0, by a.sent waits.waits said.1)
     where
       by : (sent : Option (List ℕ)) → output_of last ≡ normal (listed sent)

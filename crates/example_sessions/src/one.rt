@@ -6,10 +6,18 @@ ghost use Rattle.registry_sessions.specs.Represents.{Holds, IsFull, fault_in, ou
 ghost use Rattle.registry_sessions.specs.declared.fault.Taken.TheVariants as taken;
 
 use registry_answer::{Transport, one_answer};
+use registry_callers::{Caller, Peer, others_are_as_ever};
 use registry_sessions::{Session, SessionFault, Taken};
 use rpc_directory::Directory;
 use std::alloc::Global;
 use std::hash::BuildHasher;
+
+/// A caller of another host.
+const CALLER: Caller = Caller {
+    peer: Peer::Remote,
+    host: None,
+    trusts_remote: false,
+};
 
 /// A record that comes in two pieces is answered with the second, which has its last byte. It is a call of version 3 of
 /// RPC, so the output is RPC_MISMATCH, whose versions are 2 and 2, or SYSTEM_ERR where memory was refused for that. The
@@ -31,7 +39,8 @@ pub fn answers_a_record_cut_in_two<S: BuildHasher>(
         → directory.new ≡ directory.old }
 {
     one_answer();
-    let mut session = Session::start(alloc, 65536);
+    others_are_as_ever();
+    let mut session = Session::start(alloc, 65536, CALLER);
     let first = session.take_in(
         &[0x80, 0, 0, 12, 0, 0, 0, 2, 0, 0],
         directory,
@@ -49,7 +58,7 @@ pub fn keeps_the_rows_at_half_a_record<S: BuildHasher>(
 ) -> Result<Taken, SessionFault>
     ensures { directory.new ≡ directory.old }
 {
-    let mut session = Session::start(alloc, 65536);
+    let mut session = Session::start(alloc, 65536, CALLER);
     let taken = session.take_in(
         &[0x80, 0, 0, 12, 0, 0, 0, 2, 0, 0],
         directory,

@@ -55,6 +55,7 @@ fn bind(rt: &HostRuntime, what: &KeepTask) -> io::Result<Sockets> {
     let bounds = Bounds {
         connections: what.connections as usize,
         idle: Duration::from_secs(what.idle as u64),
+        trusts_remote: what.insecure,
     };
     Sockets::bind(rt, rt.alloc(), address, bounds, what.verbose)
 }

@@ -10,6 +10,7 @@ mod clients;
 mod datagrams;
 mod ending;
 mod rounds;
+mod whence;
 
 pub use ending::{Ending, Why};
 pub use rounds::{Bounds, Sockets};

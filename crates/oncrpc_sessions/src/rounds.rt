@@ -7,6 +7,7 @@ use crate::client::Client;
 use crate::clients::Clients;
 use crate::datagrams::Datagrams;
 use crate::ending::Ending;
+use crate::whence::caller_at;
 use mio::net::{TcpListener, TcpStream};
 use mio::{Events, Interest, Poll, Token};
 use registry_sessions::SessionTable;
@@ -36,6 +37,8 @@ pub struct Bounds {
     pub connections: usize,
     /// How long a connection may stay that makes no call and takes nothing of its replies.
     pub idle: Duration,
+    /// SET and UNSET of callers of other hosts are taken.
+    pub trusts_remote: bool,
 }
 
 /// A registry's sockets: one that listens, one for datagrams, and those of the clients. Readiness is told once: what a
@@ -74,7 +77,7 @@ impl Sockets {
         let mut listener = TcpListener::bind(rt, address)?;
         let mut bound = address;
         bound.set_port(listener.local_addr()?.port());
-        let mut datagrams = Datagrams::bind(rt, alloc, bound)?;
+        let mut datagrams = Datagrams::bind(rt, alloc, bound, bounds.trusts_remote)?;
         let registry = poll.registry();
         registry.register(&mut listener, LISTENER, Interest::READABLE)?;
         datagrams.register(registry, DATAGRAMS)?;
@@ -197,7 +200,8 @@ impl Sockets {
         let Some((place, stream)) = self.registered(stream) else {
             return;
         };
-        let opened = table.open();
+        let here = stream.local_addr().ok();
+        let opened = table.open(caller_at(peer, here, self.bounds.trusts_remote));
         self.keep(place, stream, peer, opened.ok(), now);
     }
 

@@ -191,5 +191,6 @@ fn keep_task(options: &ArgMatches<'_>) -> Option<KeepTask> {
         connections: number(options, "connections", CONNECTIONS),
         idle: number(options, "idle", IDLE),
         verbose: options.get_flag("verbose"),
+        insecure: options.get_flag("insecure"),
     })
 }

@@ -1,11 +1,15 @@
 -- Laws of the interleaving.
-use Rattle.std.specs.Prelude.{◌≡◌, ◌≢◌, ℕ, List, [], ◌++◌, Option}
+use Rattle.std.specs.Prelude.{◌≡◌, ◌≢◌, ℕ, true, false, List, [], ◌∷◌, ◌++◌, Option, None, ⊤}
 use Rattle.std.specs.List.{flat_map}
 use Rattle.std.specs.Io.KnownBytes.{Appends, Consumes, IsAtEnd}
 use Rattle.rpc_record.specs.Marked.{normal}
 use Rattle.rpc_record.specs.Reading.{IsWhole}
 use Rattle.registry_rows.specs.Rows.{Row}
 use Rattle.registry_rows.specs.Ports.{tcp}
+use Rattle.rpc_message.specs.Message.{CallView}
+use Rattle.rpc_message.specs.Spelling.{CallBytes}
+use Rattle.registry_callers.specs.Asking.{is_set}
+use Rattle.registry_callers.specs.declared.callers.Peer.TheVariants as peer
 use Rattle.rpc_engine.specs.declared.fault.Served.{Served}
 use Rattle.rpc_engine.specs.Counted.{IsServed}
 use Rattle.rpc_engine.specs.Served.{most_record, Serves}
@@ -30,12 +34,19 @@ pub record AreOf (i : ℕ) (events : List Event) : Type 0 where
   pub others : (j : ℕ) → j ≢ i → brought j events ≡ []
   pub no_datagrams : flat_map datagram_in events ≡ []
 
+-- no record is a SET
+abbrev pub NoSets : List (List ℕ) → Type 0
+NoSets [] = ⊤
+NoSets (m ∷ ms) = ((c : CallView) → CallBytes c m → is_set c ≡ false) × NoSets ms
+
 -- Where one connection alone was served and its bytes are whole records, rows, replies and counts are those that
--- `serve` has of a source that gave these bytes and ended, and of a sink that took all replies.
+-- `serve` has of a source that gave these bytes and ended, and of a sink that took all replies. `serve` knows of no
+-- caller: this holds of one of this host, of whose address nothing is known and who sets nothing.
 abbrev pub AloneServes : Type 0
 AloneServes = (rows new : List Row) (events : List Event) (open_at : Sessions) (sent : List (List ℕ)) (i : ℕ)
     (left left' taken taken' : Option (List ℕ)) (served : Served)
     (w : Interleaves rows events new open_at sent) → AreOf i events
+    → (w.who i).peer ≡ peer.Local → (w.who i).host ≡ None → NoSets (records_of i w.arrivals)
     → IsWhole most_record (records_of i w.arrivals) (brought i events)
     → Consumes left left' (brought i events) → IsAtEnd left'
     → Appends taken taken' (normal (replies_of i w.arrivals w.answers))

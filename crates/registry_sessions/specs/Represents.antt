@@ -8,7 +8,8 @@ use Rattle.rpc_record.specs.Reading.{IsWhole, IsInside, RefusedIn, TooLongAt, ca
 use Rattle.rpc_record.specs.Represents as reader
 use Rattle.registry_rows.specs.Rows.{Row}
 use Rattle.registry_rows.specs.Ports.{tcp}
-use Rattle.registry_answer.specs.Answer.{Answer}
+use Rattle.registry_callers.specs.From.{AnswerFrom}
+use Rattle.registry_callers.specs.declared.callers.Caller.{Caller}
 use Rattle.rpc_engine.specs.Run.{listed}
 use Rattle.rpc_engine.specs.Served.{most_record}
 use Rattle.registry_sessions.specs.declared.fault.SessionFault.{SessionFault}
@@ -24,6 +25,10 @@ output_of s = drop s.sent s.output.items
 -- with more bytes than these waiting it takes nothing
 abbrev pub bound_of : Session → ℕ
 bound_of s = s.bound
+
+-- who sends its bytes
+abbrev pub caller_of : Session → Caller
+caller_of s = s.caller
 
 -- how many bytes it keeps: of a record that is not whole, and of replies
 abbrev pub kept_of : Session → ℕ
@@ -68,7 +73,7 @@ pub record Answers (old new : Session) (netid : List ℕ) (rows after : List Row
   pub message : List ℕ
   pub refused : Bool
   pub sent : Option (List ℕ)
-  pub answer : Answer rows netid message refused after sent
+  pub answer : AnswerFrom (caller_of old) rows netid message refused after sent
   pub reads : Reads old new bytes (message ∷ [])
   pub replies : Replies old new (listed sent)
 
@@ -106,10 +111,12 @@ pub record TakesIn (old new : Session) (rows after : List Row) (piece : List ℕ
   pub taken : IfOk result (λ t. Takes old new tcp rows after piece t)
   pub fault : IfErr result (λ f. Breaks old new rows after piece f)
   pub stays : Stays old new result
+  pub same_caller : caller_of new ≡ caller_of old
 
 -- What a write of so many bytes does: whatever was read stays, and so many more of the replies' bytes were taken.
 pub record Took (old new : Session) (n : ℕ) : Type 0 where
   pub same_fault : new.fault ≡ old.fault
+  pub same_caller : caller_of new ≡ caller_of old
   pub reads : (bytes : List ℕ) (rs : List (List ℕ)) → HasRead old bytes rs → HasRead new bytes rs
   pub replies : (replies : List (List ℕ)) (count : ℕ) → Holds old replies count → Holds new replies (count + n)
 
@@ -119,6 +126,6 @@ abbrev pub Concludes : Session → Session → Result (Unit {0}) SessionFault �
 Concludes old new (Ok u) =
     (new ≡ old) × ((bytes : List ℕ) (rs : List (List ℕ)) → HasRead old bytes rs → IsWhole most_record rs bytes)
 Concludes old new (Err f) =
-    IsBroken new f × ((g : SessionFault) → IsBroken old g → new ≡ old)
+    IsBroken new f × (caller_of new ≡ caller_of old) × ((g : SessionFault) → IsBroken old g → new ≡ old)
     × ((bytes : List ℕ) (rs : List (List ℕ)) → HasRead old bytes rs
     → (f ≡ fault.Record (flaw.Truncated (capped (length bytes)))) × IsInside most_record rs bytes)

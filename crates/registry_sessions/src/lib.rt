@@ -8,6 +8,7 @@
 
 mod fault;
 mod laws;
+mod over;
 mod replies;
 mod session;
 mod table;

@@ -9,8 +9,10 @@ ghost use Rattle.registry_sessions.specs.Bounds.{most_marked, most_spare};
 ghost use Rattle.registry_sessions.specs.Private.Replying.{AnswersNext, fault_of};
 
 use crate::fault::{SessionFault, Taken};
+use crate::over::Over;
 use crate::replies::push_reply;
 use registry_answer::Transport;
+use registry_callers::Caller;
 use rpc_directory::Directory;
 use rpc_record::{NoMemory, RecordFault, RecordReader, RecordStep, too_long_ends_the_stream};
 use std::alloc::Global;
@@ -36,6 +38,7 @@ pub struct Session {
     /// With more bytes than these waiting no record is answered.
     bound: u32,
     fault: Option<SessionFault>,
+    caller: Caller,
     alloc: Global,
     ghost limit: { limit_of records ≡ most_record },
     ghost lean: { vec_capacity spare ≤ most_spare },
@@ -72,13 +75,13 @@ fn answer_next<S: BuildHasher>(
     alloc: Global,
     records: &mut RecordReader,
     spare: &mut Vec<u8>,
+    over: Over,
     directory: &mut Directory<S>,
-    transport: Transport,
     out: &mut Vec<u8>,
 ) -> Result<(), NoMemory>
     requires waiting { IsWaiting records.old }
-    ensures ok { OnOk result (AnswersNext directory.old (netid_of transport) records.old records.new directory.new
-        out.old.items out.new.items) }
+    ensures ok { OnOk result (AnswersNext over.caller directory.old (netid_of over.transport) records.old records.new
+        directory.new out.old.items out.new.items) }
     ensures rows { OnErr result (directory.new ≡ directory.old) }
     ensures bytes { OnErr result (out.new.items ≡ out.old.items) }
     ensures limit { limit_of records.new ≡ limit_of records.old }
@@ -87,7 +90,7 @@ fn answer_next<S: BuildHasher>(
     let memory = mem::replace(spare, Vec::new(alloc));
     match records.take_with(memory) {
         Some(record) => {
-            let pushed = push_reply(alloc, directory, transport, &record, out);
+            let pushed = push_reply(alloc, over, directory, &record, out);
             *spare = emptied(alloc, record);
             pushed
         }
@@ -97,16 +100,17 @@ fn answer_next<S: BuildHasher>(
 
 impl Session {
     ghost use Rattle.rpc_record.specs.Marked.{Longest};
-    ghost use Rattle.registry_sessions.specs.Represents.{output_of, bound_of, kept_of, fault_in, IsFull};
+    ghost use Rattle.registry_sessions.specs.Represents.{output_of, bound_of, caller_of, kept_of, fault_in, IsFull};
     ghost use Rattle.registry_sessions.specs.Represents.{HasRead, Holds, Takes, Breaks, Stays, Took, Concludes};
 
-    /// A session before its first byte. While more than `bound` bytes of its output wait, it takes nothing.
-    pub fn start(alloc: Global, bound: u32) -> Self
+    /// A session of a caller before its first byte. While more than `bound` bytes of its output wait, it takes nothing.
+    pub fn start(alloc: Global, bound: u32, caller: Caller) -> Self
         // It has taken no bytes and answered no records,
         ensures reads { HasRead result [] [] }
         // and has no replies.
         ensures replies { Holds result [] 0 }
         ensures bound { bound_of result ≡ bound }
+        ensures caller { caller_of result ≡ caller }
     {
         Session {
             records: RecordReader::start(alloc, MOST_RECORD),
@@ -115,6 +119,7 @@ impl Session {
             sent: 0,
             bound,
             fault: None,
+            caller,
             alloc,
         }
     }
@@ -138,6 +143,7 @@ impl Session {
         // After a fault nothing changes, and above the bound nothing is taken.
         ensures stays { Stays self.old self.new result }
         ensures bound { bound_of self.new ≡ bound_of self.old }
+        ensures caller { caller_of self.new ≡ caller_of self.old }
     {
         // The law, for the proof: where a header passes the limit, the records before it are those of the longest
         // front.
@@ -151,12 +157,16 @@ impl Session {
         match self.records.feed(piece) {
             Ok(RecordStep::More) => Ok(Taken::More),
             Ok(RecordStep::Whole { used }) => {
+                let over = Over {
+                    caller: self.caller,
+                    transport,
+                };
                 match answer_next(
                     self.alloc,
                     &mut self.records,
                     &mut self.spare,
+                    over,
                     directory,
-                    transport,
                     &mut self.output,
                 ) {
                     Ok(()) => Ok(Taken::Answered { used }),
@@ -215,6 +225,7 @@ impl Session {
         // What was read stays, and so many more bytes of the replies were taken.
         ensures took { Took self.old self.new n }
         ensures bound { bound_of self.new ≡ bound_of self.old }
+        ensures caller { caller_of self.new ≡ caller_of self.old }
     {
         self.sent += n;
         let waiting = self.output.len() - self.sent;
@@ -242,6 +253,7 @@ impl Session {
         ensures concludes { Concludes self.old self.new result }
         ensures output { output_of self.new ≡ output_of self.old }
         ensures bound { bound_of self.new ≡ bound_of self.old }
+        ensures caller { caller_of self.new ≡ caller_of self.old }
     {
         if let Some(fault) = self.fault {
             return Err(fault);

@@ -485,6 +485,7 @@ fn asks_keep(alloc: Global, words: Words, kept: Kept) -> Result<bool, AllocError
         connections,
         idle,
         verbose,
+        insecure: false,
     };
     match read(alloc, words)? {
         Ok(Request::Keep(task)) => Ok(task == asked),

@@ -4,7 +4,7 @@ use Rattle.example_sessions.proofs.one.answers_a_record_cut_in_two.Goals as goal
 
 pub returns-clause-output : goal.returns-clause-output
 returns-clause-output g c = λ first used second.
-    (answered c.one_answer.ensures c.start-session.result c.take_in-first.new.self c.take_in-second.new.self
+    (answered c.one_answer.ensures c.others_are_as_ever.ensures c.start-session.result c.take_in-first.new.self c.take_in-second.new.self
     c.args.directory.now c.take_in-first.new.directory c.take_in-second.new.directory used
     c.start-session.ensures.reads c.start-session.ensures.replies
     (takes_at c.start-session.result c.take_in-first.new.self c.args.directory.now c.take_in-first.new.directory
@@ -15,7 +15,7 @@ returns-clause-output g c = λ first used second.
 
 pub returns-clause-rows : goal.returns-clause-rows
 returns-clause-rows g c = λ first used second.
-    (answered c.one_answer.ensures c.start-session.result c.take_in-first.new.self c.take_in-second.new.self
+    (answered c.one_answer.ensures c.others_are_as_ever.ensures c.start-session.result c.take_in-first.new.self c.take_in-second.new.self
     c.args.directory.now c.take_in-first.new.directory c.take_in-second.new.directory used
     c.start-session.ensures.reads c.start-session.ensures.replies
     (takes_at c.start-session.result c.take_in-first.new.self c.args.directory.now c.take_in-first.new.directory
