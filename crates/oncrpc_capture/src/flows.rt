@@ -1,0 +1,78 @@
+//! The flows of a capture.
+use crate::flow::{Flow, Pair};
+use std::alloc::{AllocError, Global};
+use std::collections::BTreeMap;
+
+/// How many flows are followed at a time.
+const MOST_FLOWS: usize = 4096;
+
+/// The flows of a capture, of which so many are followed at a time.
+#[derive(Drop)]
+pub struct Flows {
+    alloc: Global,
+    places: BTreeMap<Pair, usize>,
+    flows: Vec<Flow>,
+    /// The number of the next flow.
+    next: u32,
+}
+
+impl Flows {
+    /// No flow.
+    pub fn new(alloc: Global) -> Flows {
+        Flows {
+            alloc,
+            places: BTreeMap::new(alloc),
+            flows: Vec::new(alloc),
+            next: 0,
+        }
+    }
+
+    /// The place of the flow of these nodes. Where it is new and there are too many, the one that was not seen for the
+    /// longest time is forgotten for it.
+    pub fn place_of(&mut self, pair: Pair, known: bool) -> Result<usize, AllocError> {
+        if let Some(place) = self.places.get(&pair) {
+            return Ok(*place);
+        }
+        let flow = Flow::new(self.alloc, pair, self.next, known);
+        self.next = self.next.wrapping_add(1);
+        let place = if self.flows.len() < MOST_FLOWS {
+            self.flows.push(flow)?;
+            self.flows.len() - 1
+        } else {
+            let oldest = self.oldest();
+            self.places.remove(&self.flows[oldest].pair);
+            self.flows[oldest] = flow;
+            oldest
+        };
+        match self.places.insert(pair, place) {
+            Ok(_) => Ok(place),
+            Err(_) => Err(AllocError),
+        }
+    }
+
+    // The place of the flow that was not seen for the longest time.
+    fn oldest(&self) -> usize {
+        let mut oldest = 0;
+        for (place, flow) in self.flows.iter().enumerate() {
+            if flow.last < self.flows[oldest].last {
+                oldest = place;
+            }
+        }
+        oldest
+    }
+
+    /// Whether there is a flow of these nodes.
+    pub fn has(&self, pair: &Pair) -> bool {
+        self.places.contains_key(pair)
+    }
+
+    /// The flow at a place.
+    pub fn flow(&mut self, place: usize) -> &mut Flow {
+        &mut self.flows[place]
+    }
+
+    /// How many there are.
+    pub fn len(&self) -> usize {
+        self.flows.len()
+    }
+}
