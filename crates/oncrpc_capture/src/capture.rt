@@ -1,4 +1,6 @@
 //! The messages of a capture, printed and judged.
+ghost use Rattle.std.specs.Prelude.{◌≤◌, IfOk};
+
 use crate::clock::time_of;
 use crate::finding::begins_call;
 use crate::flow::pair_of;
@@ -31,7 +33,9 @@ pub fn capture_over<P: Opener, I: Source, O: Sink, F: Sink>(
     input: &mut I,
     output: &mut O,
     faults: &mut F,
-) -> u8 {
+) -> u8
+    ensures { result ≤ 4 }
+{
     let declared = match declared(alloc, &what.types, opener) {
         Ok(declared) => declared,
         Err(why) => return refuse_texts(alloc, why, &what.types.files, faults),
@@ -50,7 +54,9 @@ fn watch_over<P: Opener, I: Source, O: Sink>(
     opener: &mut P,
     input: &mut I,
     output: &mut O,
-) -> Result<u8, Failure> {
+) -> Result<u8, Failure>
+    ensures { IfOk result (λ status. status ≤ 1) }
+{
     let heads = read_heads(alloc)?;
     let settings = Settings {
         declared,
@@ -133,7 +139,7 @@ impl<'a> Desk<'a> {
         output: &mut O,
     ) -> Result<bool, Failure> {
         let mut rest = piece;
-        loop {
+        for _packet in 0..u64::MAX {
             match reader.feed(rest) {
                 Ok(CaptureStep::More) => return Ok(true),
                 Ok(CaptureStep::Packet { used }) => {
@@ -152,6 +158,7 @@ impl<'a> Desk<'a> {
                 }
             }
         }
+        Ok(true)
     }
 
     // Says why the file is refused.

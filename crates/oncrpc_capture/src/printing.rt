@@ -154,7 +154,5 @@ fn front_text(alloc: Global, form: Form, seen: Seen) -> Result<String, AllocErro
 fn time_text(alloc: Global, time: u64) -> Result<String, AllocError> {
     let seconds = time / 1_000_000_000;
     let rest = time % 1_000_000_000;
-    let padded = format!(in alloc; "{}", rest + 1_000_000_000)?;
-    let digits = padded.as_str().get(1..).unwrap_or("");
-    format!(in alloc; "{seconds}.{digits}")
+    format!(in alloc; "{seconds}.{rest:09}")
 }

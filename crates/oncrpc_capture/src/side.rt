@@ -80,7 +80,7 @@ impl Side {
         } else if self.direction.is_none() {
             self.begin(first, true);
         }
-        self.drop_taken();
+        self.drop_taken()?;
         let Some(direction) = &mut self.direction else {
             return Ok(());
         };
@@ -127,15 +127,14 @@ impl Side {
     }
 
     // Drops what was taken of the bytes that were handed on.
-    fn drop_taken(&mut self) {
+    fn drop_taken(&mut self) -> Result<(), AllocError> {
         if self.at == self.due.len() {
             self.due.clear();
         } else {
-            let left = self.due.len() - self.at;
-            self.due.copy_within(self.at.., 0);
-            self.due.truncate(left);
+            self.due = Vec::from_slice(self.alloc, &self.due[self.at..])?;
         }
         self.at = 0;
+        Ok(())
     }
 
     /// The next that comes of it. A record is put into the buffer.

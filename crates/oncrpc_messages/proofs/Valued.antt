@@ -1,7 +1,7 @@
 -- Values one behind another, as they are judged and printed.
 use Rattle.std.proofs.Common.{◌≡◌, ℕ, ◌+◌, ◌-◌, ◌<◌, ◌≤◌, Bool, true, false, List, [], ◌∷◌, ◌++◌, length, take, drop}
-use Rattle.std.proofs.Common.{refl, sym, ap, ◌∙◌, subst, inl, inr, get_or, arith}
-use Rattle.std.proofs.lemmas.List.{at_drop_more, length-take-le, take-append-drop}
+use Rattle.std.proofs.Common.{refl, sym, ap, ◌∙◌, subst, inl, inr, get_or, arith, rules, append_assoc}
+use Rattle.std.proofs.lemmas.List.{at_drop_all, at_drop_more, length-take-le, take-append-drop}
 use Rattle.xdr_types.specs.Kinds.{KindView}
 use Rattle.xdr_types.specs.declared.kind.KindId.{KindId}
 use Rattle.xdr_types.specs.Spelling.{bytes_of}
@@ -39,3 +39,11 @@ module _ (form : Form) (kinds : List KindView) (limits : Bounds) (k : ℕ) (ks :
   pub refused_more : (w : Why) (n : ℕ) → AreRefused kinds limits ks (drop used rest) w n
       → AreRefused kinds limits (k ∷ ks) rest w (used + n)
   refused_more w n h = inr (v, drop used rest, n, fits, joined, ap (λ (x : ℕ). x + n) (sym counted), h)
+
+-- what was printed, and a value and others behind it
+pub joined_text : (old new a b u : List ℕ) → new ≡ old ++ (a ++ b) → old ++ (a ++ (b ++ u)) ≡ new ++ u
+joined_text old new a b u is = rw is (search (rules, append_assoc))
+
+-- where no kind is left
+pub none_left : (ids : List KindId) (at : ℕ) → length ids ≤ at → places (drop at ids) ≡ []
+none_left ids at all = at_drop_all places ids at all

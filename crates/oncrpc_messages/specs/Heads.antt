@@ -5,7 +5,7 @@ use Rattle.xdr_types.specs.Named.{place_named}
 use Rattle.xdr_lang.specs.Declarations.{Declared}
 use Rattle.xdr_lang.specs.Means.{Means}
 use Rattle.xdr_lang.specs.Views.{declared_of}
-use Rattle.oncrpc_messages.specs.declared.heads.Heads as declared
+use Rattle.oncrpc_messages.specs.declared.heads.Heads as code
 
 -- the declarations of RFC 5531, up to what a procedure has, in which the version of RPC is the one number 2, and a
 -- flavor and an auth_stat are any number
@@ -56,11 +56,11 @@ pub record Heads : Type 0 where
   pub message : ℕ
   pub auth_sys : ℕ
 
-abbrev pub heads_of : declared.Heads → Heads
+abbrev pub heads_of : code.Heads → Heads
 heads_of h = record { kinds = h.declared.schema.kinds; message = h.message.place; auth_sys = h.auth_sys.place }
 
 -- The kinds are those that the text declares, and the places those of the two types.
-pub record AreHeads (h : declared.Heads) : Type 0 where
+pub record AreHeads (h : code.Heads) : Type 0 where
   pub means : Means head_text (declared_of h.declared)
   pub message : place_named h.declared.schema.names (codes "rpc_msg") ≡ Some h.message.place
   pub auth_sys : place_named h.declared.schema.names (codes "authsys_parms") ≡ Some h.auth_sys.place

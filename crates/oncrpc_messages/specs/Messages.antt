@@ -10,7 +10,7 @@ use Rattle.rpc_message.specs.Constants.{reply_type}
 use Rattle.rpc_message.specs.Message.{CallView, ReplyView, StatusView, Accepted, Denied, Success}
 use Rattle.rpc_message.specs.Spelling.{CallBytes, ReplyBytes}
 use Rattle.rpc_calls.specs.declared.asked.Asked.{Asked}
-use Rattle.oncrpc_messages.specs.declared.page.Page as declared
+use Rattle.oncrpc_messages.specs.declared.page.Page as code
 use Rattle.oncrpc_messages.specs.declared.page.Said.{Said}
 use Rattle.oncrpc_messages.specs.declared.page.Said.TheVariants as said
 use Rattle.oncrpc_messages.specs.declared.refusal.Refusal.{Refusal}
@@ -117,7 +117,7 @@ Tells s asked bytes text v (said.Reply xid) =
     (r : ReplyView) × TellsReply s asked bytes r text v × (xid ≡ xid_of r)
 Tells s asked bytes text v said.Neither = TellsRecord s bytes text v
 
-abbrev pub TellsPage : Settings → Option Asked → (bytes : List ℕ) → declared.Page → Type 0
+abbrev pub TellsPage : Settings → Option Asked → (bytes : List ℕ) → code.Page → Type 0
 TellsPage s asked bytes p = Tells s asked bytes p.text.items p.verdict p.said
 
 -- the bytes say that they are a reply with this xid: these are their first two numbers (RFC 5531 section 9)

@@ -45,7 +45,7 @@ pub fn body_of(
         limits: settings.limits,
         form: settings.form,
     };
-    match values_of(alloc, terms, kinds, bytes)? {
+    match values_of(alloc, &terms, kinds, bytes)? {
         Values::Shown(values) => Ok(Body {
             text: values_text(alloc, settings.form, call, values)?,
             verdict: Verdict::Canonical,

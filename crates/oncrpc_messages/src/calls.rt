@@ -3,14 +3,13 @@ ghost use Rattle.std.specs.Prelude.{◌≡◌, ◌+◌, ◌<◌, ◌^◌, IfOk, 
 ghost use Rattle.rpc_message.specs.Spelling.{CallBytes};
 ghost use Rattle.rpc_message.specs.View.{lent_call_view};
 ghost use Rattle.xdr_lang.specs.Views.{procedure_of};
-ghost use Rattle.oncrpc_messages.specs.Asked.{name_in};
 ghost use Rattle.oncrpc_messages.specs.Messages.{TellsArgumentsOf, TellsCall};
 ghost use Rattle.oncrpc_messages.specs.Settings.{settings_of};
 
 use crate::bodies::{Body, body_of, nothing_text};
 use crate::credential::fields_of;
 use crate::fronts::{call_front, cred_text};
-use crate::procedures::argument_kinds;
+use crate::procedures::{argument_kinds, name_of};
 use crate::refusal::{Refusal, Verdict};
 use crate::settings::Settings;
 use rpc_message::LentCall;
@@ -42,16 +41,6 @@ pub fn call_page(
         text,
         verdict: body.verdict,
     })
-}
-
-// The name of a procedure.
-fn name_of(procedure: Option<&Procedure>) -> Option<&str>
-    ensures { option_map (λ n. n.now) result ≡ name_in (option_map (λ p. procedure_of p.now) procedure) }
-{
-    match procedure {
-        Some(procedure) => Some(procedure.name.as_str()),
-        None => None,
-    }
 }
 
 // What is printed behind the credential: the arguments, which begin at this place, unless that was refused.

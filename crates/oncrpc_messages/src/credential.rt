@@ -47,7 +47,7 @@ pub fn fields_of(
         limits: settings.limits,
         form: Form::Json,
     };
-    match values_of(alloc, terms, &kinds, cred.body)? {
+    match values_of(alloc, &terms, &kinds, cred.body)? {
         Values::Shown(text) => Ok(Fields {
             text: Some(text),
             refusal: None,

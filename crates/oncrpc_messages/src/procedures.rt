@@ -2,7 +2,7 @@
 ghost use Rattle.std.specs.Prelude.{◌≡◌, ◌<◌, length, nat_lt, option_map, IfSome};
 ghost use Rattle.std.specs.List.{list_all};
 ghost use Rattle.xdr_lang.specs.Views.{places, procedure_of};
-ghost use Rattle.oncrpc_messages.specs.Asked.{arguments_in, is_wrapped, places_in, results_in, results_of};
+ghost use Rattle.oncrpc_messages.specs.Asked.{arguments_in, is_wrapped, name_in, places_in, results_in, results_of};
 ghost use Rattle.oncrpc_messages.specs.Private.Told.{AreKinds};
 
 use xdr_lang::Procedure;
@@ -49,6 +49,16 @@ pub fn result_kind(
         None => Some(None),
         Some(kind) if schema.has(kind) => Some(Some(kind)),
         Some(_) => None,
+    }
+}
+
+/// The name of a procedure.
+pub fn name_of(procedure: Option<&Procedure>) -> Option<&str>
+    ensures { option_map (λ n. n.now) result ≡ name_in (option_map (λ p. procedure_of p.now) procedure) }
+{
+    match procedure {
+        Some(procedure) => Some(procedure.name.as_str()),
+        None => None,
     }
 }
 

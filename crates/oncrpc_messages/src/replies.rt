@@ -11,7 +11,7 @@ ghost use Rattle.oncrpc_messages.specs.Settings.{settings_of};
 
 use crate::bodies::{Body, body_of, nothing_text};
 use crate::fronts::reply_front;
-use crate::procedures::result_kind;
+use crate::procedures::{name_of, result_kind};
 use crate::refusal::Verdict;
 use crate::settings::Settings;
 use rpc_calls::Asked;
@@ -34,11 +34,7 @@ pub fn reply_page(
         b.text.items b.verdict) }
 {
     let procedure = procedure_of(settings, asked);
-    let name = match procedure {
-        Some(procedure) => Some(procedure.name.as_str()),
-        None => None,
-    };
-    let front = reply_front(alloc, settings.form, reply, asked, name)?;
+    let front = reply_front(alloc, settings.form, reply, asked, name_of(procedure))?;
     let kinds = kinds_of(settings, asked, procedure);
     let body = ending_body(alloc, settings, kinds, reply, bytes.len())?;
     let mut text = front.into_bytes();
@@ -115,10 +111,27 @@ fn results_body(
 {
     match kinds {
         None => body_of(alloc, settings, false, None, start, results),
-        Some(None) => body_of(alloc, settings, false, Some(&[]), start, results),
+        Some(None) => {
+            let kinds: [KindId; 0] = [];
+            body_of(
+                alloc,
+                settings,
+                false,
+                Some(kinds.as_slice()),
+                start,
+                results,
+            )
+        }
         Some(Some(kind)) => {
             let kinds = [kind];
-            body_of(alloc, settings, false, Some(&kinds), start, results)
+            body_of(
+                alloc,
+                settings,
+                false,
+                Some(kinds.as_slice()),
+                start,
+                results,
+            )
         }
     }
 }

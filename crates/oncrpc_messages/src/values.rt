@@ -45,13 +45,13 @@ pub enum Step {
 /// The schema has the kinds. The error is an allocation failure.
 pub fn values_of(
     alloc: Global,
-    terms: Terms<'_>,
+    terms: &Terms<'_>,
     kinds: &[KindId],
     bytes: &[u8],
 ) -> Result<Values, NoMemory>
-    requires { AreKinds terms.schema.now.kinds (places kinds.now) }
-    ensures told { IfOk result (λ v. AreTold terms.form terms.schema.now.kinds terms.limits true (places kinds.now)
-        bytes.now v) }
+    requires { AreKinds terms.now.schema.now.kinds (places kinds.now) }
+    ensures told { IfOk result (λ v. AreTold terms.now.form terms.now.schema.now.kinds terms.now.limits true
+        (places kinds.now) bytes.now v) }
     ensures within { IfOk result (λ v. IsPlacedIn (length bytes.now) v) }
 {
     let mut text = Vec::new(alloc);
@@ -83,14 +83,14 @@ pub fn values_of(
 fn push_value(
     alloc: Global,
     text: &mut Vec<u8>,
-    terms: Terms<'_>,
+    terms: &Terms<'_>,
     kind: KindId,
     first: bool,
     bytes: &[u8],
 ) -> Result<Step, NoMemory>
-    requires { kind.place < length terms.schema.now.kinds }
-    ensures { IfOk result (λ s. TakesValue terms.form terms.schema.now.kinds terms.limits kind.place first bytes.now
-        text.old.items text.new.items s) }
+    requires { kind.place < length terms.now.schema.now.kinds }
+    ensures { IfOk result (λ s. TakesValue terms.now.form terms.now.schema.now.kinds terms.now.limits kind.place first
+        bytes.now text.old.items text.new.items s) }
 {
     match judge(alloc, terms.schema, kind, terms.limits, bytes) {
         Ok(used) => {
@@ -122,19 +122,20 @@ fn push_between(text: &mut Vec<u8>, form: Form, first: bool) -> Result<(), Alloc
 // What is printed of the value whose encoding these bytes are, all of them.
 fn shown_of(
     alloc: Global,
-    terms: Terms<'_>,
+    terms: &Terms<'_>,
     kind: KindId,
     bytes: &[u8],
 ) -> Result<Vec<u8>, NoMemory>
-    requires { (v : Tree) × IsOneValue terms.schema.now.kinds kind.place terms.limits bytes.now v }
-    ensures { IfOk result (λ text. (v : Tree) → IsOneValue terms.schema.now.kinds kind.place terms.limits bytes.now v
-        → text.items ≡ shown_in terms.form terms.schema.now.kinds kind.place v) }
+    requires { (v : Tree) × IsOneValue terms.now.schema.now.kinds kind.place terms.now.limits bytes.now v }
+    ensures { IfOk result (λ text. (v : Tree)
+        → IsOneValue terms.now.schema.now.kinds kind.place terms.now.limits bytes.now v
+        → text.items ≡ shown_in terms.now.form terms.now.schema.now.kinds kind.place v) }
 {
     let Terms {
         schema,
         limits,
         form,
-    } = terms;
+    } = *terms;
     match form {
         Form::Lines => show_whole(alloc, schema, kind, limits, bytes),
         Form::Json => json_of_bytes(alloc, schema, kind, limits, bytes, Layout::Compact),

@@ -1,4 +1,8 @@
 //! How many messages there were, and what they were found to be.
+ghost use Rattle.std.specs.Prelude.{◌≡◌, IfOk, string_bytes};
+ghost use Rattle.oncrpc_watch.specs.Counted.{counted, more};
+ghost use Rattle.oncrpc_watch.specs.Lines.{counts_line};
+
 use oncrpc_messages::{Form, Page, Said, Verdict};
 use std::alloc::{AllocError, Global};
 
@@ -21,7 +25,9 @@ pub struct Counts {
 
 impl Counts {
     /// No message.
-    pub fn none() -> Counts {
+    pub fn none() -> Counts
+        ensures { result ≡ record { calls = 0; replies = 0; others = 0; refused = 0; unjudged = 0; unasked = 0 } }
+    {
         Counts {
             calls: 0,
             replies: 0,
@@ -33,7 +39,9 @@ impl Counts {
     }
 
     /// Counts a message, and whether the call to which it answers is known.
-    pub fn count(&mut self, page: &Page, known: bool) {
+    pub fn count(&mut self, page: &Page, known: bool)
+        ensures { self.new ≡ counted page.now.said page.now.verdict known self.old }
+    {
         match page.said {
             Said::Call { .. } => self.calls = self.calls.saturating_add(1),
             Said::Reply { .. } => {
@@ -52,13 +60,22 @@ impl Counts {
     }
 
     /// Counts something that is refused.
-    pub fn refuse(&mut self) {
+    pub fn refuse(&mut self)
+        ensures refused { self.new.refused ≡ more self.old.refused }
+        ensures calls { self.new.calls ≡ self.old.calls }
+        ensures replies { self.new.replies ≡ self.old.replies }
+        ensures others { self.new.others ≡ self.old.others }
+        ensures unjudged { self.new.unjudged ≡ self.old.unjudged }
+        ensures unasked { self.new.unasked ≡ self.old.unasked }
+    {
         self.refused = self.refused.saturating_add(1);
     }
 }
 
 /// The closing line: each count behind its name. The error is an allocation failure.
-pub fn counts_line(alloc: Global, form: Form, counts: Counts) -> Result<String, AllocError> {
+pub fn counts_line(alloc: Global, form: Form, counts: Counts) -> Result<String, AllocError>
+    ensures { IfOk result (λ text. string_bytes text ≡ counts_line form counts) }
+{
     let Counts {
         calls,
         replies,

@@ -1,4 +1,6 @@
 //! Where the bytes of a record stand in its stream: behind the headers of its fragments (RFC 5531 section 11).
+ghost use Rattle.std.specs.Prelude.{◌<◌};
+
 use std::alloc::{AllocError, Global};
 
 /// How many fragments of a record are kept.
@@ -27,6 +29,7 @@ pub struct Fragments {
     filled: usize,
     /// How many bytes of the fragment are still to come.
     left: u32,
+    ghost open: { filled < 4 },
 }
 
 impl Fragments {
@@ -67,9 +70,9 @@ impl Fragments {
     fn take_header(&mut self, bytes: &[u8]) -> Result<usize, AllocError> {
         let used = bytes.len().min(4 - self.filled);
         self.header[self.filled..self.filled + used].copy_from_slice(&bytes[..used]);
-        self.filled += used;
-        if self.filled == 4 {
-            self.filled = 0;
+        let filled = self.filled + used;
+        self.filled = filled % 4;
+        if filled == 4 {
             self.left = u32::from_be_bytes(self.header) % LAST;
             if self.left != 0 && self.starts.len() < MOST_FRAGMENTS {
                 let place = self.place.saturating_add(used as u64);

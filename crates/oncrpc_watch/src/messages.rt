@@ -53,16 +53,17 @@ fn watch_over<P: Opener, I: Source, O: Sink>(
     ensures { IfOk result (λ status. status ≤ 1) }
 {
     let heads = read_heads(alloc)?;
+    let form = if what.json { Form::Json } else { Form::Lines };
     let settings = Settings {
         declared,
         heads: &heads,
         limits: Limits::new(4096, 16777216).unwrap(),
-        form: if what.json { Form::Json } else { Form::Lines },
+        form,
     };
     let mut watch = Watch::new(alloc, settings);
     let mut calls = Stream::new(alloc, "input");
     match &what.replies {
-        None => while calls.tell_next(alloc, &mut watch, input, output)? {},
+        None => calls.tell_all(alloc, &mut watch, input, output)?,
         Some(name) => {
             let mut other = match opener.open(name.as_str()) {
                 Ok(other) => other,
@@ -72,7 +73,7 @@ fn watch_over<P: Opener, I: Source, O: Sink>(
         }
     }
     let counts = watch.counts();
-    let line = counts_line(alloc, settings.form, counts)?;
+    let line = counts_line(alloc, form, counts)?;
     write_whole(output, line.as_bytes())?;
     Ok(if counts.refused == 0 { 0 } else { 1 })
 }
@@ -87,16 +88,19 @@ fn tell_both<I: Source, R: Source, O: Sink>(
     output: &mut O,
 ) -> Result<(), Failure> {
     let mut replies = Stream::new(alloc, "replies");
-    while replies.next(alloc, watch, other, output)? {
-        while watch.is_unasked(WAY, &replies.record) && watch.spare() != 0 {
-            if !calls.tell_next(alloc, watch, input, output)? {
+    for _reply in 0..u64::MAX {
+        if !replies.next(alloc, watch, other, output)? {
+            break;
+        }
+        for _call in 0..u64::MAX {
+            let wanted = watch.is_unasked(WAY, &replies.record) && watch.spare() != 0;
+            if !wanted || !calls.tell_next(alloc, watch, input, output)? {
                 break;
             }
         }
         replies.tell(alloc, watch, output)?;
     }
-    while calls.tell_next(alloc, watch, input, output)? {}
-    Ok(())
+    calls.tell_all(alloc, watch, input, output)
 }
 
 // One direction.
@@ -165,6 +169,22 @@ impl Stream {
         };
         let text = close_page(alloc, watch.settings().form, page, place)?;
         write_whole(output, &text)?;
+        Ok(())
+    }
+
+    // Reads all records and prints them.
+    fn tell_all<R: Source, O: Sink>(
+        &mut self,
+        alloc: Global,
+        watch: &mut Watch<'_>,
+        source: &mut R,
+        output: &mut O,
+    ) -> Result<(), Failure> {
+        for _record in 0..u64::MAX {
+            if !self.tell_next(alloc, watch, source, output)? {
+                break;
+            }
+        }
         Ok(())
     }
 

@@ -1,4 +1,6 @@
 //! The records of a stream, one after another, with the places of their bytes.
+ghost use Rattle.std.specs.Prelude.{◌≤◌};
+
 use crate::fragments::Fragments;
 use rpc_record::{RecordFault, RecordReader, RecordStep};
 use std::alloc::Global;
@@ -17,6 +19,8 @@ pub struct Records {
     /// How many bytes that is, and how many of them were taken.
     size: usize,
     at: usize,
+    ghost within: { at ≤ size },
+    ghost fits: { size ≤ 4096 },
 }
 
 impl Records {

@@ -24,9 +24,10 @@ pub struct Watch<'a> {
 }
 
 impl<'a> Watch<'a> {
-    ghost use Rattle.std.specs.Prelude.{◌≡◌, ℕ, None, IfOk, OnOk};
+    ghost use Rattle.std.specs.Prelude.{◌≡◌, ℕ, None, IfOk, OnOk, is_some};
     ghost use Rattle.rpc_calls.specs.Waiting.{waiting};
     ghost use Rattle.oncrpc_messages.specs.Settings.{settings_of};
+    ghost use Rattle.oncrpc_watch.specs.Counted.{counted, more};
     ghost use Rattle.oncrpc_watch.specs.Watched.{IsCallOf, NotesCall, TellsRecord};
 
     /// No message was seen.
@@ -43,10 +44,10 @@ impl<'a> Watch<'a> {
     }
 
     /// How messages are read and printed.
-    pub fn settings(&self) -> Settings<'a>
-        ensures { result ≡ self.now.settings }
+    pub fn settings(&self) -> &Settings<'a>
+        ensures { result.now ≡ self.now.settings }
     {
-        self.settings
+        &self.settings
     }
 
     /// How many messages there were so far.
@@ -60,6 +61,7 @@ impl<'a> Watch<'a> {
     pub fn refuse(&mut self)
         ensures settings { self.new.settings ≡ self.old.settings }
         ensures table { self.new.table ≡ self.old.table }
+        ensures refused { self.new.counts.refused ≡ more self.old.counts.refused }
     {
         self.counts.refuse();
     }
@@ -92,6 +94,9 @@ impl<'a> Watch<'a> {
         ensures told { IfOk result (λ t. TellsRecord (settings_of self.old.settings) self.old.table way record.now t) }
         // A call waits then.
         ensures noted { IfOk result (λ t. NotesCall t.page.said self.new.table way time) }
+        // It is counted.
+        ensures counted { IfOk result (λ t. self.new.counts
+            ≡ counted t.page.said t.page.verdict (is_some t.asked) self.old.counts) }
         ensures settings { self.new.settings ≡ self.old.settings }
     {
         let asked = self.call_of(way, record);
@@ -105,6 +110,7 @@ impl<'a> Watch<'a> {
     fn call_of(&mut self, way: u32, record: &[u8]) -> Option<Asked>
         ensures call { IsCallOf self.old.table way record.now result }
         ensures settings { self.new.settings ≡ self.old.settings }
+        ensures counts { self.new.counts ≡ self.old.counts }
     {
         let xid = reply_xid(record)?;
         self.table.take(way, xid)
@@ -114,6 +120,7 @@ impl<'a> Watch<'a> {
     fn note(&mut self, way: u32, time: u64, said: Said) -> Result<(), NoMemory>
         ensures noted { OnOk result (NotesCall said self.new.table way time) }
         ensures settings { self.new.settings ≡ self.old.settings }
+        ensures counts { self.new.counts ≡ self.old.counts }
     {
         if let Said::Call { xid, asked } = said {
             let call = Asked { time, ..asked };

@@ -1,0 +1,53 @@
+//! What peers said, read and judged.
+ghost use Rattle.std.specs.Prelude.{◌≤◌};
+
+use crate::files::FileOpener;
+use oncrpc_answers::{Failure, report};
+use oncrpc_capture::capture_over;
+use oncrpc_watch::messages_over;
+use oncrpc_words::{CaptureTask, MessagesTask};
+use xdr_io::{FromRead, Sink};
+
+/// The messages of standard input, to standard output.
+pub fn messages<O: Sink, F: Sink>(
+    rt: &HostRuntime,
+    what: MessagesTask,
+    output: &mut O,
+    faults: &mut F,
+) -> u8
+    ensures { result ≤ 4 }
+{
+    let Ok(mut opener) = FileOpener::new(rt) else {
+        return report(Failure::NoMemory, faults);
+    };
+    let mut input = FromRead::new(rt.stdin());
+    let task = oncrpc_watch::MessagesTask {
+        types: what.types,
+        replies: what.replies,
+        json: what.json,
+    };
+    messages_over(rt.alloc(), &task, &mut opener, &mut input, output, faults)
+}
+
+/// The messages of a capture, to standard output.
+pub fn capture<O: Sink, F: Sink>(
+    rt: &HostRuntime,
+    what: CaptureTask,
+    output: &mut O,
+    faults: &mut F,
+) -> u8
+    ensures { result ≤ 4 }
+{
+    let Ok(mut opener) = FileOpener::new(rt) else {
+        return report(Failure::NoMemory, faults);
+    };
+    let mut input = FromRead::new(rt.stdin());
+    let task = oncrpc_capture::CaptureTask {
+        file: what.file,
+        types: what.types,
+        ports: what.ports,
+        json: what.json,
+        stats: what.stats,
+    };
+    capture_over(rt.alloc(), &task, &mut opener, &mut input, output, faults)
+}

@@ -1,0 +1,56 @@
+//! What help says behind the options of the commands that read what peers said.
+
+/// What `messages` prints, its statuses and an example of it.
+pub const AFTER_MESSAGES: &str =
+    "Output: a line for each message of the records of standard input (RFC 5531 sections
+9 and 11), below it the lines of its arguments or results, as 'oncrpc show' prints
+them, and a closing line of counts; with --json an object on a line for each.
+  call XID P.V.N NAME FLAVOR      a call; of AUTH_SYS its fields follow as JSON
+  reply XID P.V.N NAME STATUS     a reply to a call that was read before
+  reply XID no call STATUS        a reply to none
+  record                          neither
+  .., N bytes                     arguments or results that no text declares
+  refused WHY at N                the message is refused at byte N of its stream:
+                                  'oncrpc help check' has WHY, and MoreFollows is
+                                  bytes behind all that is to be there
+  input refused WHY at N          the records end inside one, or one is too long
+
+A reply is read by the type of the call of its xid. With --replies the other
+direction is read beside the input, and a reply is printed behind its call.
+
+Exit status:
+  0  nothing is refused
+  1  something is
+  2  words or declarations are refused
+  3  a read or a write failed
+  4  memory was refused
+
+Example:
+    $ printf '80000028 00000007 00000000 00000002 000186a0 00000002 00000000 00000000
+      00000000 00000000 00000000' | xxd -r -p | oncrpc messages --types rpcbind
+    call 7 100000.2.0 NULL AUTH_NONE
+    calls 1 replies 0 others 0 refused 0 unjudged 0 unasked 0";
+
+/// What `capture` prints, and its statuses.
+pub const AFTER_CAPTURE: &str =
+    "Output: the lines of 'oncrpc messages' for what a file of captured packets carries
+over UDP and TCP, each message behind the number of the packet that ends it, its
+time, and who sent it to whom. FILE is - for standard input. With --stats there are
+counts of procedures, of reasons and the slowest replies in place of messages.
+  missing N bytes                 the capture has a hole here
+  passed N bytes                  so many stand before the next record that is found
+  refused WHY at N                the message is refused at its byte N
+  file refused WHY at N           the file is none, from the record at N on
+
+Without --port what looks like RPC is read, and a reply only to a call that was
+seen. With --port all that goes from or to such a port is.
+
+Exit status:
+  0  nothing is refused
+  1  something is
+  2  words or declarations are refused
+  3  a read or a write failed
+  4  memory was refused
+
+Example:
+    $ tcpdump -i lo -w - port 2049 | oncrpc capture - --types nfs --port 2049";
