@@ -71,7 +71,6 @@ fn watch_over<P: Opener, I: Source, O: Sink>(
         printing: Printing::new(alloc, Watch::new(alloc, settings), what.stats),
         record: Vec::new(alloc),
         frame: 0,
-        held: 0,
     };
     if what.file.as_str() == "-" {
         desk.read(input, output)?;
@@ -101,8 +100,6 @@ struct Desk<'a> {
     record: Vec<u8>,
     /// The number of the packet at work, from 1.
     frame: u64,
-    /// How many bytes all directions hold.
-    held: usize,
 }
 
 impl<'a> Desk<'a> {
@@ -250,10 +247,10 @@ impl<'a> Desk<'a> {
         flow.side(up).take(segment, known)?;
         self.records(place, up, seen, output)?;
         let after = self.flows.flow(place).side(up).held();
-        self.held = self.held.saturating_sub(before).saturating_add(after);
-        if self.held > MOST_TOTAL {
+        self.flows.change(before, after);
+        if self.flows.held() > MOST_TOTAL {
             self.flows.flow(place).side(up).let_go();
-            self.held = self.held.saturating_sub(after);
+            self.flows.change(after, 0);
             self.printing.note(seen, "dropped", after as u64, output)?;
         }
         Ok(())

@@ -14,6 +14,8 @@ pub struct Flows {
     flows: Vec<Flow>,
     /// The number of the next flow.
     next: u32,
+    /// How many bytes of memory they hold, about.
+    held: usize,
 }
 
 impl Flows {
@@ -24,6 +26,7 @@ impl Flows {
             places: BTreeMap::new(alloc),
             flows: Vec::new(alloc),
             next: 0,
+            held: 0,
         }
     }
 
@@ -41,6 +44,7 @@ impl Flows {
         } else {
             let oldest = self.oldest();
             self.places.remove(&self.flows[oldest].pair);
+            self.held = self.held.saturating_sub(self.flows[oldest].held());
             self.flows[oldest] = flow;
             oldest
         };
@@ -69,6 +73,16 @@ impl Flows {
     /// The flow at a place.
     pub fn flow(&mut self, place: usize) -> &mut Flow {
         &mut self.flows[place]
+    }
+
+    /// How many bytes of memory they hold, about.
+    pub fn held(&self) -> usize {
+        self.held
+    }
+
+    /// One of them held so many bytes, and holds so many now.
+    pub fn change(&mut self, before: usize, after: usize) {
+        self.held = self.held.saturating_sub(before).saturating_add(after);
     }
 
     /// How many there are.

@@ -54,7 +54,7 @@ fn arguments_body(
 ) -> Result<Body, NoMemory>
     requires place { start + length call.now.args.now < 2 ^ 64 }
     ensures { IfOk result (λ b. TellsArgumentsOf (settings_of settings.now) start (lent_call_view call.now)
-        (option_map (λ p. procedure_of p.now) procedure) refused b.text.items b.verdict) }
+        (option_map (λ p. procedure_of p.now) procedure.entry) refused b.text.items b.verdict) }
 {
     if let Some(refusal) = refused {
         return Ok(Body {

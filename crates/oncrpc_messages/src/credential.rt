@@ -31,7 +31,7 @@ pub fn fields_of(
     settings: &Settings<'_>,
     cred: LentAuth<'_>,
 ) -> Result<Fields, NoMemory>
-    ensures { IfOk result (λ f. TellsFields (settings_of settings.now) 32 (lent_view cred)
+    ensures { IfOk result (λ f. TellsFields (settings_of settings.now) 32 (lent_view cred.entry)
         (option_map (λ t. t.items) f.text) f.refusal) }
 {
     if cred.flavor != AUTH_SYS {

@@ -18,7 +18,7 @@ pub fn call_front(
     name: Option<&str>,
 ) -> Result<String, AllocError>
     ensures { IfOk result (λ text. string_bytes text ≡ call_front form (lent_call_view call.now)
-        (option_map (λ n. n.now) name)) }
+        (option_map (λ n. n.now) name.entry)) }
 {
     let xid = call.xid;
     let target = target_text(alloc, form, call.prog, call.vers, call.proc, name)?;
@@ -38,7 +38,7 @@ fn target_text(
     name: Option<&str>,
 ) -> Result<String, AllocError>
     ensures { IfOk result (λ text. string_bytes text ≡ target_text form program version procedure
-        (option_map (λ n. n.now) name)) }
+        (option_map (λ n. n.now) name.entry)) }
 {
     let numbers = numbers_text(alloc, form, program, version, procedure)?;
     match name {
@@ -127,7 +127,7 @@ pub fn reply_front(
     name: Option<&str>,
 ) -> Result<String, AllocError>
     ensures { IfOk result (λ text. string_bytes text ≡ reply_front form (reply_view reply.now) asked
-        (option_map (λ n. n.now) name)) }
+        (option_map (λ n. n.now) name.entry)) }
 {
     let xid = xid_of(reply);
     let target = known_text(alloc, form, asked, name)?;
@@ -159,7 +159,7 @@ fn known_text(
     asked: Option<Asked>,
     name: Option<&str>,
 ) -> Result<String, AllocError>
-    ensures { IfOk result (λ text. string_bytes text ≡ known_text form asked (option_map (λ n. n.now) name)) }
+    ensures { IfOk result (λ text. string_bytes text ≡ known_text form asked (option_map (λ n. n.now) name.entry)) }
 {
     match asked {
         Some(a) => target_text(alloc, form, a.program, a.version, a.procedure, name),

@@ -5,7 +5,8 @@
 //!   comes out, `settings` how messages are read, `form` how they are printed.
 //! - `fronts`: the line over a message. `credential`: the fields of AUTH_SYS. `bodies`: arguments and results.
 //!   `values`: values of kinds, one behind another, each found by `judge`.
-//! - `procedures`: the kinds of a procedure's arguments and result. `heads`: the types by which heads are judged.
+//! - `procedures`: the kinds of a procedure's arguments and result. `heads`: the types by which heads are judged,
+//!   out of the `head_text`.
 //! - `refusal`: why bytes are refused, and where. `closing`: how a message is closed with it. `laws`: what follows from
 //!   the definitions.
 #![tactic(auto)]
@@ -17,6 +18,7 @@ mod credential;
 mod flaws;
 mod form;
 mod fronts;
+mod head_text;
 mod heads;
 mod judge;
 mod laws;
@@ -30,7 +32,8 @@ mod values;
 
 pub use closing::close_page;
 pub use form::Form;
-pub use heads::{Heads, read_heads};
+pub use head_text::read_heads;
+pub use heads::Heads;
 pub use laws::canonical_is_encoded;
 pub use message::{read_message, reply_xid};
 pub use page::{Page, Said};

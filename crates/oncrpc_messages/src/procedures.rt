@@ -19,7 +19,7 @@ pub fn argument_kinds<'a>(
     procedure: Option<&'a Procedure>,
 ) -> Option<&'a [KindId]>
     ensures kinds { option_map (λ k. places k.now) result ≡ places_in schema.now.kinds flavor
-        (arguments_in (option_map (λ p. procedure_of p.now) procedure)) }
+        (arguments_in (option_map (λ p. procedure_of p.now) procedure.entry)) }
     ensures known { IfSome result (λ k. AreKinds schema.now.kinds (places k.now)) }
 {
     let procedure = procedure?;
@@ -38,7 +38,7 @@ pub fn result_kind(
     procedure: Option<&Procedure>,
 ) -> Option<Option<KindId>>
     ensures kinds { option_map (λ r. results_of (option_map (λ k. k.place) r)) result
-        ≡ places_in schema.now.kinds flavor (results_in (option_map (λ p. procedure_of p.now) procedure)) }
+        ≡ places_in schema.now.kinds flavor (results_in (option_map (λ p. procedure_of p.now) procedure.entry)) }
     ensures known { IfSome result (λ r. IfSome r (λ k. k.place < length schema.now.kinds)) }
 {
     let procedure = procedure?;
@@ -54,7 +54,7 @@ pub fn result_kind(
 
 /// The name of a procedure.
 pub fn name_of(procedure: Option<&Procedure>) -> Option<&str>
-    ensures { option_map (λ n. n.now) result ≡ name_in (option_map (λ p. procedure_of p.now) procedure) }
+    ensures { option_map (λ n. n.now) result ≡ name_in (option_map (λ p. procedure_of p.now) procedure.entry) }
 {
     match procedure {
         Some(procedure) => Some(procedure.name.as_str()),

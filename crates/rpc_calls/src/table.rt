@@ -1,10 +1,10 @@
 //! The calls that wait for a reply.
-ghost use Rattle.std.specs.Prelude.{◌≡◌, ◌≤◌};
-ghost use Rattle.rpc_calls.specs.Waiting.{key};
+ghost use Rattle.std.specs.Prelude.{◌≤◌};
 ghost use Rattle.std.specs.BTreeMap.{btree_map_len};
 ghost use Rattle.rpc_calls.specs.declared.table.TheConstants.{MOST_CALLS};
 
 use crate::asked::Asked;
+use crate::key::key;
 use std::alloc::{AllocError, Global};
 use std::collections::BTreeMap;
 use std::mem;
@@ -105,11 +105,4 @@ impl CallTable {
         let older = self.older.remove(&at);
         newer.or(older)
     }
-}
-
-/// The key of a call: its way, and then its xid.
-fn key(way: u32, xid: u32) -> u64
-    ensures { result ≡ key way xid }
-{
-    (way as u64) * 4294967296 + xid as u64
 }
