@@ -1,5 +1,6 @@
 -- What is found to be canonical is an encoding.
-use Rattle.std.proofs.Common.{◌≡◌, ℕ, Bool, List, [], ◌∷◌, Option, Some, None, sym, subst, inl, inr}
+use Rattle.std.proofs.Common.{◌≡◌, ℕ, ◌-◌, Bool, true, false, List, [], ◌∷◌, length, Option, Some, None, sym, subst}
+use Rattle.std.proofs.Common.{inl, inr}
 use Rattle.std.specs.Prelude.{⊤}
 use Rattle.xdr_types.specs.Kinds.{KindView}
 use Rattle.xdr_types.specs.Within.{Bounds}
@@ -25,14 +26,14 @@ shown_values : (form : Form) (kinds : List KindView) (limits : Bounds) (first : 
     → AreShown form kinds limits first ks bytes text → AreValues kinds limits ks bytes
 shown_values form kinds limits first [] bytes text h = h.0
 shown_values form kinds limits first (k ∷ ks) bytes text h =
-    (h.0, h.1, h.3, h.4, shown_values form kinds limits _ ks h.1 h.2 h.6)
+    (h.0, h.1, h.3, h.4, shown_values form kinds limits false ks h.1 h.2 h.6)
 
 -- a canonical body is judged by kinds
 body_values : (s : Settings) (call : Bool) (places : Option (List ℕ)) (start : ℕ) (bytes text : List ℕ)
     → TellsBody s call places start bytes text verdict.Canonical → AreValuesIn s places bytes
 body_values s call None start bytes text h = h
 body_values s call (Some places) start bytes text h =
-    shown_values s.form s.declared.schema.kinds s.limits _ places bytes h.0 h.1
+    shown_values s.form s.declared.schema.kinds s.limits true places bytes h.0 h.1
 
 -- nothing is canonical and refused
 abbrev IsRefusal : Verdict → Type 0
@@ -46,7 +47,7 @@ not_refused r e = subst (λ (v : Verdict). IsRefusal v) (sym e) tt
 cred_values : (s : Settings) (a : AuthView) (fields : Option (List ℕ)) → TellsFields s 32 a fields None
     → IsCanonicalCred s a
 cred_values s a None h is = absurd (h is)
-cred_values s a (Some fields) h is = shown_values form.Json s.heads.kinds s.limits _ (s.heads.auth_sys ∷ []) a.body
+cred_values s a (Some fields) h is = shown_values form.Json s.heads.kinds s.limits true (s.heads.auth_sys ∷ []) a.body
     fields h.1
 
 abbrev places_of_call : Settings → CallView → Option (List ℕ)
@@ -59,7 +60,7 @@ parts_of_call : (s : Settings) (bytes : List ℕ) (c : CallView) (fields : Optio
     → IsCanonicalCred s c.cred × AreValuesIn s (places_of_call s c) c.args
 parts_of_call s bytes c fields (Some r) text cred args = absurd (not_refused r args.0)
 parts_of_call s bytes c fields None text cred args =
-    (cred_values s c.cred fields cred, body_values s _ (places_of_call s c) _ c.args text args)
+    (cred_values s c.cred fields cred, body_values s true (places_of_call s c) (length bytes - length c.args) c.args text args)
 
 call_encoded : (s : Settings) (bytes : List ℕ) (c : CallView) (text : List ℕ)
     → TellsCall s bytes c text verdict.Canonical → IsCanonicalCall s bytes
@@ -71,7 +72,7 @@ call_encoded s bytes c text t =
 results_values : (s : Settings) (asked : Option Asked) (size : ℕ) (r : ReplyView) (text : List ℕ)
     → TellsEnding s (results_of_call s asked) size r text verdict.Canonical → AreCanonicalResults s asked r
 results_values s asked size (Accepted xid verf (Success results)) text h =
-    body_values s _ (results_of_call s asked) _ results text h
+    body_values s false (results_of_call s asked) (size - length results) results text h
 results_values s asked size (Accepted xid verf ProgUnavail) text h = tt
 results_values s asked size (Accepted xid verf (ProgMismatch low high)) text h = tt
 results_values s asked size (Accepted xid verf ProcUnavail) text h = tt
@@ -82,7 +83,7 @@ results_values s asked size (Denied xid w) text h = tt
 reply_encoded : (s : Settings) (asked : Option Asked) (bytes : List ℕ) (r : ReplyView) (text : List ℕ)
     → TellsReply s asked bytes r text verdict.Canonical → IsCanonicalReply s asked bytes
 reply_encoded s asked bytes r text t =
-    record { reply = r; spelled = t.spelled; results = results_values s asked _ r t.ending t.results }
+    record { reply = r; spelled = t.spelled; results = results_values s asked (length bytes) r t.ending t.results }
 
 pub encoded : CanonicalIsEncoded
 encoded s asked bytes text (said.Call xid a) t = inl (call_encoded s bytes t.0 text t.1)

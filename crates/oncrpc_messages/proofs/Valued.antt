@@ -47,3 +47,10 @@ joined_text old new a b u is = rw is (search (rules, append_assoc))
 -- where no kind is left
 pub none_left : (ids : List KindId) (at : ℕ) → length ids ≤ at → places (drop at ids) ≡ []
 none_left ids at all = at_drop_all places ids at all
+
+-- bytes that begin with others
+pub joined_at : (own bytes : List ℕ) (n : ℕ) → own ≡ take n bytes → bytes ≡ own ++ drop n bytes
+joined_at own bytes n is = sym (take-append-drop n bytes) ∙ ap (λ (x : List ℕ). x ++ drop n bytes) (sym is)
+
+pub counted_at : (own bytes : List ℕ) (n : ℕ) → n ≤ length bytes → own ≡ take n bytes → n ≡ length own
+counted_at own bytes n low is = sym (ap (λ (x : List ℕ). length x) is ∙ length-take-le n bytes low)

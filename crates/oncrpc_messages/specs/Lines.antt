@@ -43,13 +43,20 @@ call_front form.Lines c name = codes "call " ++ decimal c.xid ++ target_text for
 call_front form.Json c name =
     codes "{\"type\":\"call\",\"xid\":" ++ decimal c.xid ++ target_text form.Json c.prog c.vers c.proc name
 
+-- the flavor of its credential
+abbrev pub flavor_part : Form → (flavor : ℕ) → List ℕ
+flavor_part form.Lines flavor = codes " " ++ flavor_text flavor
+flavor_part form.Json flavor = codes ",\"flavor\":\"" ++ flavor_text flavor ++ codes "\""
+
+-- what stands before the fields of a credential
+abbrev pub fields_key : Form → List ℕ
+fields_key form.Lines = codes " "
+fields_key form.Json = codes ",\"credential\":"
+
 -- its credential: the flavor, and of AUTH_SYS the fields as JSON where they can be read
 abbrev pub cred_text : Form → (flavor : ℕ) → (fields : Option (List ℕ)) → List ℕ
-cred_text form.Lines flavor None = codes " " ++ flavor_text flavor
-cred_text form.Lines flavor (Some fields) = codes " " ++ flavor_text flavor ++ codes " " ++ fields
-cred_text form.Json flavor None = codes ",\"flavor\":\"" ++ flavor_text flavor ++ codes "\""
-cred_text form.Json flavor (Some fields) =
-    codes ",\"flavor\":\"" ++ flavor_text flavor ++ codes "\",\"credential\":" ++ fields
+cred_text form flavor None = flavor_part form flavor
+cred_text form flavor (Some fields) = flavor_part form flavor ++ (fields_key form ++ fields)
 
 -- ---- a reply
 

@@ -1,7 +1,8 @@
 //! The line over a message, as text and as JSON. Nothing is answered but an allocation failure.
 ghost use Rattle.std.specs.Prelude.{◌≡◌, ◌++◌, IfOk, option_map, string_bytes};
 ghost use Rattle.rpc_message.specs.View.{lent_call_view, reply_view, status_view, why_view};
-ghost use Rattle.oncrpc_messages.specs.Lines.{call_front, cred_text, ending_text, flavor_text, known_text, reply_front};
+ghost use Rattle.oncrpc_messages.specs.Lines.{call_front, cred_text, ending_text, fields_key, flavor_part, flavor_text};
+ghost use Rattle.oncrpc_messages.specs.Lines.{known_text, reply_front};
 ghost use Rattle.oncrpc_messages.specs.Lines.{name_part, numbers_text, record_front, status_text, target_text};
 ghost use Rattle.oncrpc_messages.specs.Lines.{why_text, xid_of};
 
@@ -84,24 +85,36 @@ pub fn cred_text(
 ) -> Result<Vec<u8>, AllocError>
     ensures { IfOk result (λ text. text.items ≡ cred_text form flavor (option_map (λ f. f.items) fields)) }
 {
-    let name = flavor_text(alloc, flavor)?;
-    let mut text = Vec::new(alloc);
-    match form {
-        Form::Lines => text.extend_from_slice(b" ")?,
-        Form::Json => text.extend_from_slice(b",\"flavor\":\"")?,
-    }
-    text.extend_from_slice(name.as_bytes())?;
-    if let Form::Json = form {
-        text.extend_from_slice(b"\"")?;
-    }
-    if let Some(fields) = fields {
-        match form {
-            Form::Lines => text.extend_from_slice(b" ")?,
-            Form::Json => text.extend_from_slice(b",\"credential\":")?,
+    let mut text = flavor_part(alloc, form, flavor)?.into_bytes();
+    match fields {
+        None => Ok(text),
+        Some(fields) => {
+            text.extend_from_slice(fields_key(form))?;
+            text.extend_from_slice(&fields)?;
+            Ok(text)
         }
-        text.extend_from_slice(&fields)?;
     }
-    Ok(text)
+}
+
+// The flavor of a credential.
+fn flavor_part(alloc: Global, form: Form, flavor: u32) -> Result<String, AllocError>
+    ensures { IfOk result (λ text. string_bytes text ≡ flavor_part form flavor) }
+{
+    let name = flavor_text(alloc, flavor)?;
+    match form {
+        Form::Lines => format!(in alloc; " {}", name.as_str()),
+        Form::Json => format!(in alloc; ",\"flavor\":\"{}\"", name.as_str()),
+    }
+}
+
+// What stands before the fields of a credential.
+fn fields_key(form: Form) -> &'static [u8]
+    ensures { result.now ≡ fields_key form }
+{
+    match form {
+        Form::Lines => b" ",
+        Form::Json => b",\"credential\":",
+    }
 }
 
 // The name of a flavor, or its number.

@@ -9,7 +9,8 @@ returns-clause-value c =
     let k = c.args.kind.place in
     let input = c.args.input.now in
     IfOk-weaker c.outcome_of.result _ _
-    (λ n o. (o.0, whole K k c.args.limits c.depth-in_range.ensures.range.units input o.0 n o.1))
+    (λ n o.
+    let w = whole K k c.args.limits c.depth-in_range.ensures.range.units input o.0 n o.1 in (o.0, w.0, w.1, w.2))
     c.outcome_of.ensures.whole
 
 pub returns-clause-place : goal.returns-clause-place

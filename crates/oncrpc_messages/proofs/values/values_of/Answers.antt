@@ -1,5 +1,5 @@
 -- The values that are left are those of the bytes that are left.
-use Rattle.std.proofs.Common.{◌≡◌, ◌≢◌, ℕ, ◌+◌, ◌-◌, ◌≤◌, true, false, List, [], ◌∷◌, ◌++◌, length, take, drop}
+use Rattle.std.proofs.Common.{◌≡◌, ◌≢◌, ℕ, ◌+◌, ◌-◌, ◌≤◌, ◌<◌, true, false, List, [], ◌∷◌, ◌++◌, length, take, drop}
 use Rattle.std.proofs.Common.{refl, sym, ap, ◌∙◌, subst, inl, arith, rules}
 use Rattle.std.proofs.lemmas.List.{append-nil, length-drop, nil_from_length, take_rest}
 use Rattle.xdr_lang.specs.Views.{places}
@@ -37,7 +37,7 @@ values-preserved c =
     let new : List ℕ = c.push_value.new.text.items in
     let used : ℕ = c.in-Taken.used in
     let step = subst (λ (s : Step). TakesValue t.form K t.limits k first rest old new s) c.in-Taken.is
-    c.in_ok-push_value.ensures in
+    c.in_ok-used.ensures in
     let v = step.0 in
     let a : List ℕ = between t.form first in
     let b : List ℕ = shown_in t.form K k v in
@@ -69,3 +69,48 @@ values-preserved c =
           let low = inv.within in
           omega (arith, size, low);
     }
+
+pub returns-in-Refused-clause-told : goal.returns-in-Refused-clause-told
+returns-in-Refused-clause-told c =
+    let t = c.args.terms.now in
+    let K = t.schema.now.kinds in
+    let ids = c.args.kinds.now in
+    let i : ℕ = c.values.index in
+    let rest : List ℕ = c.values.rest.now in
+    let k : ℕ = place_at ids i in
+    let ks : List ℕ = places (drop (i + 1) ids) in
+    let f = c.in-Refused.fault in
+    let step = subst
+    (λ (s : Step). TakesValue t.form K t.limits k c.values.first rest c.values.text.items c.push_value.new.text.items s)
+    c.in-Refused.is c.in_ok-used.ensures in
+    let left : places (drop i ids) ≡ k ∷ ks = one_left ids i c.values-test.true in
+    c.values.invariant.refused (why.Bytes f.why) f.at
+    (subst (λ (xs : List ℕ). AreRefused K t.limits xs rest (why.Bytes f.why) f.at) (sym left)
+    (inl (record { fault = f; known = step.0; ends = step.1; why_is = refl; at_is = refl })))
+
+pub returns-then-is_empty-clause-told : goal.returns-then-is_empty-clause-told
+returns-then-is_empty-clause-told c =
+    let t = c.args.terms.now in
+    let K = t.schema.now.kinds in
+    let ids = c.args.kinds.now in
+    let rest : List ℕ = c.values.rest.now in
+    let old : List ℕ = c.values.text.items in
+    let none : places (drop c.values.index ids) ≡ [] = none_left ids c.values.index (omega arith) in
+    let empty : rest ≡ [] = search rules in
+    let whole = c.values.invariant.shown []
+    (subst (λ (xs : List ℕ). AreShown t.form K t.limits c.values.first xs rest []) (sym none) (empty, refl)) in
+    subst (λ (x : List ℕ). AreShown t.form K t.limits true (places ids) c.args.bytes.now x) (append-nil old) whole
+
+pub returns-else-is_empty-clause-told : goal.returns-else-is_empty-clause-told
+returns-else-is_empty-clause-told c =
+    let t = c.args.terms.now in
+    let K = t.schema.now.kinds in
+    let ids = c.args.kinds.now in
+    let b : List ℕ = c.args.bytes.now in
+    let rest : List ℕ = c.values.rest.now in
+    let none : places (drop c.values.index ids) ≡ [] = none_left ids c.values.index (omega arith) in
+    let some : 0 < length rest = search (rules, arith) in
+    let whole = c.values.invariant.refused why.MoreFollows 0
+    (subst (λ (xs : List ℕ). AreRefused K t.limits xs rest why.MoreFollows 0) (sym none) (refl, refl, some)) in
+    let same : length b - length rest + 0 ≡ length b - length rest = omega arith in
+    subst (λ (n : ℕ). AreRefused K t.limits (places ids) b why.MoreFollows n) same whole
