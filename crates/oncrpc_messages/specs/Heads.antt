@@ -20,10 +20,13 @@ enums_text =
     ++ codes "    GARBAGE_ARGS = 4, SYSTEM_ERR = 5 };\n"
     ++ codes "enum reject_stat { RPC_MISMATCH = 0, AUTH_ERROR = 1 };\n"
 
+abbrev pub auth_line : List ℕ
+auth_line = codes "struct opaque_auth { unsigned int flavor; opaque body<400>; };\n"
+
 -- a credential, and a call before its arguments (sections 8.2 and 9)
 abbrev pub calls_text : List ℕ
 calls_text =
-    codes "struct opaque_auth { unsigned int flavor; opaque body<400>; };\n"
+    auth_line
     ++ codes "struct call_body { rpc_version rpcvers; unsigned int prog; unsigned int vers;\n"
     ++ codes "    unsigned int proc; opaque_auth cred; opaque_auth verf; };\n"
 
@@ -37,6 +40,12 @@ replies_text =
     ++ codes "union rejected_reply switch (reject_stat stat) {\n"
     ++ codes "    case RPC_MISMATCH: mismatch mismatch_info; case AUTH_ERROR: unsigned int auth_error; };\n"
 
+abbrev pub names_line : List ℕ
+names_line = codes "struct authsys_parms { unsigned int stamp; string machinename<255>; unsigned int uid;\n"
+
+abbrev pub groups_line : List ℕ
+groups_line = codes "    unsigned int gid; unsigned int gids<16>; };\n"
+
 -- a message (section 9), and the body of AUTH_SYS (appendix A)
 abbrev pub messages_text : List ℕ
 messages_text =
@@ -44,8 +53,7 @@ messages_text =
     ++ codes "    case MSG_ACCEPTED: accepted_reply areply; case MSG_DENIED: rejected_reply rreply; };\n"
     ++ codes "union rpc_body switch (msg_type mtype) { case CALL: call_body cbody; case REPLY: reply_body rbody; };\n"
     ++ codes "struct rpc_msg { unsigned int xid; rpc_body body; };\n"
-    ++ codes "struct authsys_parms { unsigned int stamp; string machinename<255>; unsigned int uid;\n"
-    ++ codes "    unsigned int gid; unsigned int gids<16>; };\n"
+    ++ names_line ++ groups_line
 
 abbrev pub head_text : List ℕ
 head_text = enums_text ++ calls_text ++ replies_text ++ messages_text

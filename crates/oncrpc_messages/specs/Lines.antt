@@ -88,13 +88,15 @@ known_text form.Lines None name = codes " no call"
 known_text form.Json None name = codes ",\"call\":false"
 known_text f (Some a) name = target_text f a.program a.version a.procedure name
 
+-- an xid, a procedure and a status
+abbrev pub reply_line : Form → (xid : ℕ) → (target ending : List ℕ) → List ℕ
+reply_line form.Lines xid target ending = codes "reply " ++ decimal xid ++ target ++ codes " " ++ ending
+reply_line form.Json xid target ending =
+    codes "{\"type\":\"reply\",\"xid\":" ++ decimal xid ++ target ++ codes ",\"status\":\"" ++ ending ++ codes "\""
+
 -- the front of a reply: its xid, the procedure, and the status
 abbrev pub reply_front : Form → ReplyView → Option Asked → (name : Option (List ℕ)) → List ℕ
-reply_front form.Lines r asked name =
-    codes "reply " ++ decimal (xid_of r) ++ known_text form.Lines asked name ++ codes " " ++ ending_text r
-reply_front form.Json r asked name =
-    codes "{\"type\":\"reply\",\"xid\":" ++ decimal (xid_of r) ++ known_text form.Json asked name
-    ++ codes ",\"status\":\"" ++ ending_text r ++ codes "\""
+reply_front form r asked name = reply_line form (xid_of r) (known_text form asked name) (ending_text r)
 
 -- ---- what is neither
 

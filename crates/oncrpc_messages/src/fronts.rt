@@ -2,7 +2,7 @@
 ghost use Rattle.std.specs.Prelude.{◌≡◌, ◌++◌, IfOk, option_map, string_bytes};
 ghost use Rattle.rpc_message.specs.View.{lent_call_view, reply_view, status_view, why_view};
 ghost use Rattle.oncrpc_messages.specs.Lines.{call_front, cred_text, ending_text, fields_key, flavor_part, flavor_text};
-ghost use Rattle.oncrpc_messages.specs.Lines.{known_text, reply_front};
+ghost use Rattle.oncrpc_messages.specs.Lines.{known_text, reply_front, reply_line};
 ghost use Rattle.oncrpc_messages.specs.Lines.{name_part, numbers_text, record_front, status_text, target_text};
 ghost use Rattle.oncrpc_messages.specs.Lines.{why_text, xid_of};
 
@@ -142,15 +142,25 @@ pub fn reply_front(
     ensures { IfOk result (λ text. string_bytes text ≡ reply_front form (reply_view reply.now) asked
         (option_map (λ n. n.now) name.entry)) }
 {
-    let xid = xid_of(reply);
     let target = known_text(alloc, form, asked, name)?;
     let ending = ending_text(alloc, reply)?;
+    reply_line(alloc, form, xid_of(reply), &target, &ending)
+}
+
+// An xid, a procedure and a status.
+fn reply_line(
+    alloc: Global,
+    form: Form,
+    xid: u32,
+    target: &str,
+    ending: &str,
+) -> Result<String, AllocError>
+    ensures { IfOk result (λ text. string_bytes text ≡ reply_line form xid target.now ending.now) }
+{
     match form {
-        Form::Lines => format!(in alloc; "reply {xid}{} {}", target.as_str(), ending.as_str()),
+        Form::Lines => format!(in alloc; "reply {xid}{target} {ending}"),
         Form::Json => format!(in alloc;
-            "{{\"type\":\"reply\",\"xid\":{xid}{},\"status\":\"{}\"",
-            target.as_str(),
-            ending.as_str()
+            "{{\"type\":\"reply\",\"xid\":{xid}{target},\"status\":\"{ending}\""
         ),
     }
 }

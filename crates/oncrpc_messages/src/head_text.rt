@@ -1,6 +1,7 @@
 //! The types by which messages are judged, read out of RFC 5531's text.
 ghost use Rattle.std.specs.Prelude.{◌≡◌, ◌++◌, IfOk, OnOk};
-ghost use Rattle.oncrpc_messages.specs.Heads.{AreHeads, calls_text, enums_text, head_text, messages_text, replies_text};
+ghost use Rattle.oncrpc_messages.specs.Heads.{AreHeads, auth_line, calls_text, enums_text, groups_line, head_text};
+ghost use Rattle.oncrpc_messages.specs.Heads.{messages_text, names_line, replies_text};
 
 use crate::heads::Heads;
 use std::alloc::{AllocError, Global};
@@ -57,7 +58,7 @@ fn push_enums(text: &mut Vec<u8>) -> Result<(), AllocError>
 fn push_calls(text: &mut Vec<u8>) -> Result<(), AllocError>
     ensures { OnOk result (text.new.items ≡ text.old.items ++ calls_text) }
 {
-    text.extend_from_slice(b"struct opaque_auth { unsigned int flavor; opaque body<400>; };\n")?;
+    text.extend_from_slice(auth_line())?;
     text.extend_from_slice(
         b"struct call_body { rpc_version rpcvers; unsigned int prog; unsigned int vers;\n",
     )?;
@@ -90,9 +91,25 @@ fn push_messages(text: &mut Vec<u8>) -> Result<(), AllocError>
         b"union rpc_body switch (msg_type mtype) { case CALL: call_body cbody; case REPLY: reply_body rbody; };\n",
     )?;
     text.extend_from_slice(b"struct rpc_msg { unsigned int xid; rpc_body body; };\n")?;
-    text.extend_from_slice(
-        b"struct authsys_parms { unsigned int stamp; string machinename<255>; unsigned int uid;\n",
-    )?;
-    text.extend_from_slice(b"    unsigned int gid; unsigned int gids<16>; };\n")?;
+    text.extend_from_slice(names_line())?;
+    text.extend_from_slice(groups_line())?;
     Ok(())
+}
+
+fn auth_line() -> &'static [u8]
+    ensures { result.now ≡ auth_line }
+{
+    b"struct opaque_auth { unsigned int flavor; opaque body<400>; };\n"
+}
+
+fn names_line() -> &'static [u8]
+    ensures { result.now ≡ names_line }
+{
+    b"struct authsys_parms { unsigned int stamp; string machinename<255>; unsigned int uid;\n"
+}
+
+fn groups_line() -> &'static [u8]
+    ensures { result.now ≡ groups_line }
+{
+    b"    unsigned int gid; unsigned int gids<16>; };\n"
 }

@@ -41,12 +41,23 @@ pub fn read_message(
 ) -> Result<Page, NoMemory>
     ensures { IfOk result (λ p. TellsPage (settings_of settings.now) asked bytes.now p) }
 {
+    match whole_call(bytes) {
+        Some(call) => page_of_call(alloc, settings, &call, bytes),
+        None => page_of_other(alloc, settings, asked, bytes),
+    }
+}
+
+// The call that the bytes are.
+fn whole_call(bytes: &[u8]) -> Option<LentCall<'_>>
+    ensures { MatchOption result ((c : CallView) → CallBytes c bytes.now → ⊥)
+        (λ k. CallBytes (lent_call_view k) bytes.now) }
+{
     match read_lent_call(bytes) {
-        LentRead::Whole(call) => page_of_call(alloc, settings, &call, bytes),
-        LentRead::NotACall
-        | LentRead::OtherVersion { .. }
-        | LentRead::BadCred { .. }
-        | LentRead::BadVerf { .. } => page_of_other(alloc, settings, asked, bytes),
+        LentRead::Whole(call) => Some(call),
+        LentRead::NotACall => None,
+        LentRead::OtherVersion { .. } => None,
+        LentRead::BadCred { .. } => None,
+        LentRead::BadVerf { .. } => None,
     }
 }
 

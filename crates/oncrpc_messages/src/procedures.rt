@@ -24,7 +24,10 @@ pub fn argument_kinds<'a>(
 {
     let procedure = procedure?;
     let kinds = procedure.arguments.as_slice();
-    if is_wrapped(flavor) || !are_kinds(schema, kinds) {
+    if is_wrapped(flavor) {
+        return None;
+    }
+    if !are_kinds(schema, kinds) {
         return None;
     }
     Some(kinds)

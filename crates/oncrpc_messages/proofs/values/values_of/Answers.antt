@@ -96,7 +96,8 @@ returns-then-is_empty-clause-told c =
     let rest : List ℕ = c.values.rest.now in
     let old : List ℕ = c.values.text.items in
     let none : places (drop c.values.index ids) ≡ [] = none_left ids c.values.index (omega arith) in
-    let empty : rest ≡ [] = search rules in
+    let size : length rest ≡ 0 = search (rules, arith) in
+    let empty : rest ≡ [] = nil_from_length rest size in
     let whole = c.values.invariant.shown []
     (subst (λ (xs : List ℕ). AreShown t.form K t.limits c.values.first xs rest []) (sym none) (empty, refl)) in
     subst (λ (x : List ℕ). AreShown t.form K t.limits true (places ids) c.args.bytes.now x) (append-nil old) whole
