@@ -40,20 +40,3 @@ pub fn once(alloc: Global, call: Asked) -> Result<Option<Asked>, AllocError>
     let _first = table.take(3, 7);
     Ok(table.take(3, 7))
 }
-
-/// Of two calls with one xid the later one is answered, and the earlier one of another xid still waits.
-pub fn the_later_one(
-    alloc: Global,
-    first: Asked,
-    second: Asked,
-    other: Asked,
-) -> Result<(Option<Asked>, Option<Asked>), AllocError>
-    ensures { IfOk result (λ found. (found.0 ≡ Some second) × (found.1 ≡ Some other)) }
-{
-    let mut table = CallTable::new(alloc);
-    table.note(0, 5, other)?;
-    table.note(0, 7, first)?;
-    table.note(0, 7, second)?;
-    let seventh = table.take(0, 7);
-    Ok((seventh, table.take(0, 5)))
-}

@@ -23,12 +23,30 @@ enums_text =
 abbrev pub auth_line : List ℕ
 auth_line = codes "struct opaque_auth { unsigned int flavor; opaque body<400>; };\n"
 
+abbrev pub call_line : List ℕ
+call_line = codes "struct call_body { rpc_version rpcvers; unsigned int prog; unsigned int vers;\n"
+
+abbrev pub procedure_line : List ℕ
+procedure_line = codes "    unsigned int proc; opaque_auth cred; opaque_auth verf; };\n"
+
+abbrev pub reply_line : List ℕ
+reply_line = codes "union reply_body switch (reply_stat stat) {\n"
+
+abbrev pub accepted_line : List ℕ
+accepted_line = codes "    case MSG_ACCEPTED: accepted_reply areply; case MSG_DENIED: rejected_reply rreply; };\n"
+
+abbrev pub body_line : List ℕ
+body_line = codes "union rpc_body switch (msg_type mtype) { case CALL: call_body cbody; case REPLY: reply_body rbody; };\n"
+
+abbrev pub message_line : List ℕ
+message_line = codes "struct rpc_msg { unsigned int xid; rpc_body body; };\n"
+
 -- a credential, and a call before its arguments (sections 8.2 and 9)
 abbrev pub calls_text : List ℕ
 calls_text =
     auth_line
-    ++ codes "struct call_body { rpc_version rpcvers; unsigned int prog; unsigned int vers;\n"
-    ++ codes "    unsigned int proc; opaque_auth cred; opaque_auth verf; };\n"
+    ++ call_line
+    ++ procedure_line
 
 -- a reply before its results (section 9)
 abbrev pub replies_text : List ℕ
@@ -49,10 +67,10 @@ groups_line = codes "    unsigned int gid; unsigned int gids<16>; };\n"
 -- a message (section 9), and the body of AUTH_SYS (appendix A)
 abbrev pub messages_text : List ℕ
 messages_text =
-    codes "union reply_body switch (reply_stat stat) {\n"
-    ++ codes "    case MSG_ACCEPTED: accepted_reply areply; case MSG_DENIED: rejected_reply rreply; };\n"
-    ++ codes "union rpc_body switch (msg_type mtype) { case CALL: call_body cbody; case REPLY: reply_body rbody; };\n"
-    ++ codes "struct rpc_msg { unsigned int xid; rpc_body body; };\n"
+    reply_line
+    ++ accepted_line
+    ++ body_line
+    ++ message_line
     ++ names_line ++ groups_line
 
 abbrev pub head_text : List ℕ

@@ -1,7 +1,8 @@
 //! The types by which messages are judged, read out of RFC 5531's text.
 ghost use Rattle.std.specs.Prelude.{◌≡◌, ◌++◌, IfOk, OnOk};
 ghost use Rattle.oncrpc_messages.specs.Heads.{AreHeads, auth_line, calls_text, enums_text, groups_line, head_text};
-ghost use Rattle.oncrpc_messages.specs.Heads.{messages_text, names_line, replies_text};
+ghost use Rattle.oncrpc_messages.specs.Heads.{accepted_line, body_line, call_line, message_line};
+ghost use Rattle.oncrpc_messages.specs.Heads.{messages_text, names_line, procedure_line, replies_text, reply_line};
 
 use crate::heads::Heads;
 use std::alloc::{AllocError, Global};
@@ -59,10 +60,8 @@ fn push_calls(text: &mut Vec<u8>) -> Result<(), AllocError>
     ensures { OnOk result (text.new.items ≡ text.old.items ++ calls_text) }
 {
     text.extend_from_slice(auth_line())?;
-    text.extend_from_slice(
-        b"struct call_body { rpc_version rpcvers; unsigned int prog; unsigned int vers;\n",
-    )?;
-    text.extend_from_slice(b"    unsigned int proc; opaque_auth cred; opaque_auth verf; };\n")?;
+    text.extend_from_slice(call_line())?;
+    text.extend_from_slice(procedure_line())?;
     Ok(())
 }
 
@@ -83,14 +82,10 @@ fn push_replies(text: &mut Vec<u8>) -> Result<(), AllocError>
 fn push_messages(text: &mut Vec<u8>) -> Result<(), AllocError>
     ensures { OnOk result (text.new.items ≡ text.old.items ++ messages_text) }
 {
-    text.extend_from_slice(b"union reply_body switch (reply_stat stat) {\n")?;
-    text.extend_from_slice(
-        b"    case MSG_ACCEPTED: accepted_reply areply; case MSG_DENIED: rejected_reply rreply; };\n",
-    )?;
-    text.extend_from_slice(
-        b"union rpc_body switch (msg_type mtype) { case CALL: call_body cbody; case REPLY: reply_body rbody; };\n",
-    )?;
-    text.extend_from_slice(b"struct rpc_msg { unsigned int xid; rpc_body body; };\n")?;
+    text.extend_from_slice(reply_line())?;
+    text.extend_from_slice(accepted_line())?;
+    text.extend_from_slice(body_line())?;
+    text.extend_from_slice(message_line())?;
     text.extend_from_slice(names_line())?;
     text.extend_from_slice(groups_line())?;
     Ok(())
@@ -112,4 +107,40 @@ fn groups_line() -> &'static [u8]
     ensures { result.now ≡ groups_line }
 {
     b"    unsigned int gid; unsigned int gids<16>; };\n"
+}
+
+fn call_line() -> &'static [u8]
+    ensures { result.now ≡ call_line }
+{
+    b"struct call_body { rpc_version rpcvers; unsigned int prog; unsigned int vers;\n"
+}
+
+fn procedure_line() -> &'static [u8]
+    ensures { result.now ≡ procedure_line }
+{
+    b"    unsigned int proc; opaque_auth cred; opaque_auth verf; };\n"
+}
+
+fn reply_line() -> &'static [u8]
+    ensures { result.now ≡ reply_line }
+{
+    b"union reply_body switch (reply_stat stat) {\n"
+}
+
+fn accepted_line() -> &'static [u8]
+    ensures { result.now ≡ accepted_line }
+{
+    b"    case MSG_ACCEPTED: accepted_reply areply; case MSG_DENIED: rejected_reply rreply; };\n"
+}
+
+fn body_line() -> &'static [u8]
+    ensures { result.now ≡ body_line }
+{
+    b"union rpc_body switch (msg_type mtype) { case CALL: call_body cbody; case REPLY: reply_body rbody; };\n"
+}
+
+fn message_line() -> &'static [u8]
+    ensures { result.now ≡ message_line }
+{
+    b"struct rpc_msg { unsigned int xid; rpc_body body; };\n"
 }

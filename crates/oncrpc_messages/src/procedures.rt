@@ -2,7 +2,8 @@
 ghost use Rattle.std.specs.Prelude.{◌≡◌, ◌<◌, length, nat_lt, option_map, IfSome};
 ghost use Rattle.std.specs.List.{list_all};
 ghost use Rattle.xdr_lang.specs.Views.{places, procedure_of};
-ghost use Rattle.oncrpc_messages.specs.Asked.{arguments_in, is_wrapped, name_in, places_in, results_in, results_of};
+ghost use Rattle.oncrpc_messages.specs.Asked.{arguments_in, is_wrapped, known_places, name_in, places_in};
+ghost use Rattle.oncrpc_messages.specs.Asked.{results_in, results_of};
 ghost use Rattle.oncrpc_messages.specs.Private.Told.{AreKinds};
 
 use xdr_lang::Procedure;
@@ -22,11 +23,22 @@ pub fn argument_kinds<'a>(
         (arguments_in (option_map (λ p. procedure_of p.now) procedure.entry)) }
     ensures known { IfSome result (λ k. AreKinds schema.now.kinds (places k.now)) }
 {
-    let procedure = procedure?;
-    let kinds = procedure.arguments.as_slice();
-    if is_wrapped(flavor) {
-        return None;
+    match procedure {
+        None => None,
+        Some(procedure) => {
+            if is_wrapped(flavor) {
+                return None;
+            }
+            known_kinds(schema, procedure.arguments.as_slice())
+        }
     }
+}
+
+// These kinds, where the schema has all of them.
+fn known_kinds<'a>(schema: &Schema, kinds: &'a [KindId]) -> Option<&'a [KindId]>
+    ensures kinds { option_map (λ k. places k.now) result ≡ known_places schema.now.kinds (places kinds.now) }
+    ensures known { IfSome result (λ k. AreKinds schema.now.kinds (places k.now)) }
+{
     if !are_kinds(schema, kinds) {
         return None;
     }
