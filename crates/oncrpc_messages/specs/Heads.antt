@@ -65,16 +65,18 @@ abbrev pub groups_line : List ℕ
 groups_line = codes "    unsigned int gid; unsigned int gids<16>; };\n"
 
 -- a message (section 9), and the body of AUTH_SYS (appendix A)
-abbrev pub messages_text : List ℕ
-messages_text =
-    reply_line
-    ++ accepted_line
-    ++ body_line
-    ++ message_line
-    ++ names_line ++ groups_line
+abbrev pub bodies_text : List ℕ
+bodies_text = reply_line ++ accepted_line ++ body_line
+
+abbrev pub ends_text : List ℕ
+ends_text = message_line ++ names_line ++ groups_line
+
+-- all of them
+abbrev pub firsts_text : List ℕ
+firsts_text = enums_text ++ calls_text ++ replies_text
 
 abbrev pub head_text : List ℕ
-head_text = enums_text ++ calls_text ++ replies_text ++ messages_text
+head_text = firsts_text ++ (bodies_text ++ ends_text)
 
 -- The kinds of a text, and the places among them of a message's head and of the body of AUTH_SYS.
 pub record Heads : Type 0 where

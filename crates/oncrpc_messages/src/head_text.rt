@@ -2,7 +2,8 @@
 ghost use Rattle.std.specs.Prelude.{◌≡◌, ◌++◌, IfOk, OnOk};
 ghost use Rattle.oncrpc_messages.specs.Heads.{AreHeads, auth_line, calls_text, enums_text, groups_line, head_text};
 ghost use Rattle.oncrpc_messages.specs.Heads.{accepted_line, body_line, call_line, message_line};
-ghost use Rattle.oncrpc_messages.specs.Heads.{messages_text, names_line, procedure_line, replies_text, reply_line};
+ghost use Rattle.oncrpc_messages.specs.Heads.{bodies_text, ends_text, firsts_text, names_line, procedure_line};
+ghost use Rattle.oncrpc_messages.specs.Heads.{replies_text, reply_line};
 
 use crate::heads::Heads;
 use std::alloc::{AllocError, Global};
@@ -35,11 +36,19 @@ fn head_text(alloc: Global) -> Result<Vec<u8>, AllocError>
     ensures { IfOk result (λ text. text.items ≡ head_text) }
 {
     let mut text = Vec::new(alloc);
-    push_enums(&mut text)?;
-    push_calls(&mut text)?;
-    push_replies(&mut text)?;
-    push_messages(&mut text)?;
+    push_firsts(&mut text)?;
+    push_bodies(&mut text)?;
+    push_ends(&mut text)?;
     Ok(text)
+}
+
+fn push_firsts(text: &mut Vec<u8>) -> Result<(), AllocError>
+    ensures { OnOk result (text.new.items ≡ text.old.items ++ firsts_text) }
+{
+    push_enums(text)?;
+    push_calls(text)?;
+    push_replies(text)?;
+    Ok(())
 }
 
 fn push_enums(text: &mut Vec<u8>) -> Result<(), AllocError>
@@ -79,12 +88,18 @@ fn push_replies(text: &mut Vec<u8>) -> Result<(), AllocError>
     Ok(())
 }
 
-fn push_messages(text: &mut Vec<u8>) -> Result<(), AllocError>
-    ensures { OnOk result (text.new.items ≡ text.old.items ++ messages_text) }
+fn push_bodies(text: &mut Vec<u8>) -> Result<(), AllocError>
+    ensures { OnOk result (text.new.items ≡ text.old.items ++ bodies_text) }
 {
     text.extend_from_slice(reply_line())?;
     text.extend_from_slice(accepted_line())?;
     text.extend_from_slice(body_line())?;
+    Ok(())
+}
+
+fn push_ends(text: &mut Vec<u8>) -> Result<(), AllocError>
+    ensures { OnOk result (text.new.items ≡ text.old.items ++ ends_text) }
+{
     text.extend_from_slice(message_line())?;
     text.extend_from_slice(names_line())?;
     text.extend_from_slice(groups_line())?;
