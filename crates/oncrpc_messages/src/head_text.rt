@@ -10,8 +10,8 @@ use std::alloc::{AllocError, Global};
 use xdr_lang::read;
 use xdr_types::NoMemory;
 
-/// Reads the types of messages (RFC 5531 sections 8.2 and 9, appendix A). The error is an allocation failure: a test
-/// shows that the text is read.
+/// Reads the types of messages (RFC 5531 sections 8.2 and 9, appendix A). The error is an allocation failure: the text
+/// is read, which no clause says.
 pub fn read_heads(alloc: Global) -> Result<Heads, NoMemory>
     ensures { IfOk result (λ h. AreHeads h) }
 {
