@@ -11,8 +11,8 @@ const MOST: u32 = 16781312;
 /// The highest bit of a header: the fragment is its record's last.
 const LAST: u32 = 0x8000_0000;
 
-/// The first place of these bytes at which a last fragment begins whose content begins as a message does. None: there is
-/// none of which twenty bytes are there.
+/// The first place of these bytes at which a last fragment begins whose content begins as a message does. None: there
+/// is none of which twenty bytes are there.
 pub fn record_in(bytes: &[u8]) -> Option<usize> {
     let mut at = 0;
     while at + LOOKED <= bytes.len() {

@@ -59,8 +59,10 @@ parts_of_call : (s : Settings) (bytes : List ℕ) (c : CallView) (fields : Optio
     → TellsArguments s bytes c refused text verdict.Canonical
     → IsCanonicalCred s c.cred × AreValuesIn s (places_of_call s c) c.args
 parts_of_call s bytes c fields (Some r) text cred args = absurd (not_refused r args.0)
-parts_of_call s bytes c fields None text cred args =
-    (cred_values s c.cred fields cred, body_values s true (places_of_call s c) (length bytes - length c.args) c.args text args)
+parts_of_call s bytes c fields None text cred args = (
+  cred_values s c.cred fields cred,
+  body_values s true (places_of_call s c) (length bytes - length c.args) c.args text args,
+)
 
 call_encoded : (s : Settings) (bytes : List ℕ) (c : CallView) (text : List ℕ)
     → TellsCall s bytes c text verdict.Canonical → IsCanonicalCall s bytes

@@ -36,7 +36,8 @@ abbrev pub accepted_line : List ℕ
 accepted_line = codes "    case MSG_ACCEPTED: accepted_reply areply; case MSG_DENIED: rejected_reply rreply; };\n"
 
 abbrev pub body_line : List ℕ
-body_line = codes "union rpc_body switch (msg_type mtype) { case CALL: call_body cbody; case REPLY: reply_body rbody; };\n"
+body_line =
+    codes "union rpc_body switch (msg_type mtype) { case CALL: call_body cbody; case REPLY: reply_body rbody; };\n"
 
 abbrev pub message_line : List ℕ
 message_line = codes "struct rpc_msg { unsigned int xid; rpc_body body; };\n"

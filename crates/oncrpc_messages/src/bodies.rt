@@ -31,8 +31,8 @@ pub fn body_of(
 ) -> Result<Body, NoMemory>
     requires known { IfSome kinds (λ k. AreKinds settings.now.declared.now.schema.kinds (places k.now)) }
     requires within { start + length bytes.now < 2 ^ 64 }
-    ensures { IfOk result (λ b. TellsBody (settings_of settings.now) call (option_map (λ k. places k.now) kinds.entry) start
-        bytes.now b.text.items b.verdict) }
+    ensures { IfOk result (λ b. TellsBody (settings_of settings.now) call
+        (option_map (λ k. places k.now) kinds.entry) start bytes.now b.text.items b.verdict) }
 {
     let Some(kinds) = kinds else {
         return Ok(Body {

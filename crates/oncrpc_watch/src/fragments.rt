@@ -93,8 +93,8 @@ impl Fragments {
         used
     }
 
-    /// The place in the stream of a byte of the record. Of a byte behind the first 4096 fragments it is as far behind the
-    /// last of these as though no header followed.
+    /// The place in the stream of a byte of the record. Of a byte behind the first 4096 fragments it is as far behind
+    /// the last of these as though no header followed.
     pub fn place_of(&self, at: usize) -> u64 {
         let mut found = self.place;
         for start in &self.starts {

@@ -1,5 +1,5 @@
-//! The engine of `oncrpc messages`, over readers and writers. The messages of a stream of records, or of both directions
-//! of a connection, are printed and judged.
+//! The engine of `oncrpc messages`, over readers and writers. The messages of a stream of records, or of both
+//! directions of a connection, are printed and judged.
 //!
 //! - `messages`: the call. `task`: what the words ask for.
 //! - `watch`: a message told, with the call to which it answers; `counts` and the closing line of them.

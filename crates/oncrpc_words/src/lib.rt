@@ -1,7 +1,7 @@
 //! The program's words: what they ask for, what its help says, and what is printed where they ask for no task.
 //!
-//! - `words`, `calls`, `watching`: the words are read; `command`, `tables`: by which commands and options; `request`: into what
-//!   they ask for.
+//! - `words`, `calls`, `watching`: the words are read; `command`, `tables`: by which commands and options; `request`:
+//!   into what they ask for.
 //! - `help`: what help says of the program, before the options; `after`, `after_calls`, `after_network` and
 //!   `after_watching` what it says behind them. `fault`: words that ask for no task.
 #![tactic(auto)]
