@@ -193,7 +193,8 @@ impl Stats {
                     name.as_str()
                 )?,
                 Form::Json => format!(in alloc;
-                    "{{\"type\":\"procedure\",\"name\":\"{}\",\"calls\":{calls},\"replies\":{replies},\"refused\":{refused}}}\n",
+                    "{{\"type\":\"procedure\",\"name\":\"{}\",\"calls\":{calls},\"replies\":{replies},\
+                     \"refused\":{refused}}}\n",
                     name.as_str()
                 )?,
             };
@@ -246,7 +247,8 @@ impl Stats {
                     name.as_str()
                 )?,
                 Form::Json => format!(in alloc;
-                    "{{\"type\":\"slow\",\"nanoseconds\":\"{time}\",\"packet\":{frame},\"xid\":{xid},\"name\":\"{}\"}}\n",
+                    "{{\"type\":\"slow\",\"nanoseconds\":\"{time}\",\"packet\":{frame},\"xid\":{xid},\
+                     \"name\":\"{}\"}}\n",
                     name.as_str()
                 )?,
             };
