@@ -32,7 +32,7 @@ impl<'a> Watch<'a> {
 
     /// No message was seen.
     pub fn new(alloc: Global, settings: Settings<'a>) -> Watch<'a>
-        ensures settings { result.settings ≡ settings }
+        ensures settings { result.settings ≡ settings.entry }
         ensures empty { (way xid : ℕ) → waiting result.table way xid ≡ None }
     {
         Watch {
