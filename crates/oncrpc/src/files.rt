@@ -8,7 +8,8 @@ use xdr_io::{FromRead, ReadFault};
 /// The most bytes of the name of an installed text.
 const MOST_NAME: usize = 255;
 
-/// Opens files by their paths, and a text that is installed with the program by its name. It tells nothing of them.
+/// Opens files by their paths, and a text that is installed with the program by its name. Its contract says nothing of
+/// them.
 #[derive(Drop)]
 pub struct FileOpener<'a, R> {
     rt: &'a R,
