@@ -80,6 +80,7 @@ pub struct TimedReader<'a> {
 }
 
 impl<'a> TimedReader<'a> {
+    /// Reads of a connection, none of which waits beyond that time. None was late so far.
     pub fn new(until: Until<'a>, stream: &'a TcpStream) -> Self {
         TimedReader {
             until,
@@ -123,6 +124,7 @@ pub struct TimedWriter<'a> {
 }
 
 impl<'a> TimedWriter<'a> {
+    /// Writes to a connection, none of which waits beyond that time. None was late so far.
     pub fn new(until: Until<'a>, stream: &'a TcpStream) -> Self {
         TimedWriter {
             until,
