@@ -14,7 +14,7 @@ use Rattle.c_json.specs.declared.spelled.Spelled.TheVariants as spelled
 use Rattle.c_json.specs.Spelled.{IsPlace, IsUnspelled, IsRead, IsReadBy, IsReadByHeld}
 use Rattle.c_json.specs.Private.Unread.{IsUnread}
 
--- a reason other than want of memory says that the text spells no value
+-- a reason other than an allocation failure says that the text spells no value
 pub refused : (q : Question) (text : List ℕ) (w : JsonReason) (f : TextFault) → (w ≡ NoMemory → ⊥) → f.why ≡ w
     → IsPlace text f → (w ≡ NoMemory) ⊎ SpellsNone q.kinds q.place q.limits text
     → Tells q.kinds q.place q.limits text w → IsUnspelled q text f

@@ -24,7 +24,7 @@ begins_of q units b v used o =
     let w = whole q.kinds q.place q.limits units b v used o in
     record { value = v; outcome = o; fits = w.0; within = w.1; spelled = w.2 }
 
--- a fault that is not want of memory refuses the input
+-- a fault that is not an allocation failure refuses the input
 pub refusal_of : (q : Question) → q.limits.bytes % 4 ≡ 0 → (b : List ℕ) (f : DecodeFault)
     → (f.why ≡ reason.NoMemory → ⊥) → EndsWith q.kinds q.place q.limits b f → IsRefusal q b f
 refusal_of q units b f known e =

@@ -31,7 +31,7 @@ encoded q used begins content =
       spelled = bytes;
     }
 
--- where an answer tells neither of a refusal nor of want of memory there is one
+-- where an answer tells neither of a refusal nor of an allocation failure there is one
 pub nothing_encoded : (q : Question) (a : Answer) → IsJudged q [] a → ((f : DecodeFault) → a ≡ answer.Refused f → ⊥)
     → (a ≡ answer.NoMemory → ⊥) → (content : List ℕ) → IsEncoded q (given [] content) []
 nothing_encoded q (answer.Whole used) j broken wanting content = encoded q used j.0 content

@@ -36,7 +36,7 @@ pub same_lines : (q : Question) (b : List ℕ) (used : ℕ) (begins : BeginsWith
 same_lines q b used begins v n text o is =
     is ∙ ap (λ (x : Tree). show_text q.kinds q.place x) (same_value q b used begins v n o)
 
--- any refusal but want of memory is of these bytes and no more
+-- any refusal but an allocation failure is of these bytes and no more
 pub nothing_follows : (why : Reason) → (why ≡ reason.NoMemory → ⊥) → MayFollow why []
 nothing_follows reason.BadBool known = tt
 nothing_follows reason.BadNumbered known = tt
@@ -48,7 +48,7 @@ nothing_follows reason.TooLarge known = tt
 nothing_follows reason.Truncated known = refl
 nothing_follows reason.NoMemory known = known refl
 
--- where a value begins the bytes, no fault but want of memory stands against it
+-- where a value begins the bytes, no fault but an allocation failure stands against it
 pub no_fault : (q : Question) → q.limits.bytes % 4 ≡ 0 → (b : List ℕ) (used : ℕ) → BeginsWithValue q b used
     → (f : DecodeFault) → EndsWith q.kinds q.place q.limits b f → (f.why ≡ reason.NoMemory → ⊥) → ⊥
 no_fault q units b used begins f ends known =

@@ -43,7 +43,7 @@ pub record AreTaken (q : Question) (bytes : List ℕ) (cs : List ValueItem) (is 
   pub begin : Begin q.kinds q.place is
   pub takes : 0 < length cs → (s : Step) × Takes q.kinds q.place q.limits is s
 
--- why an item is refused behind others: it tells none, or the writer refuses what it tells, not for want of memory
+-- why an item is refused behind others: it tells none, or the writer refuses what it tells, but not for memory
 abbrev pub IsFault : Question → (bytes : List ℕ) → (is : List NodeItem) → ValueItem → ItemWhy → Type 0
 IsFault q bytes is c (fault.Refused w) =
     (i : ItemView) × Tells bytes c i × IsKnown w × Refuses q.kinds q.place q.limits is i w

@@ -71,7 +71,7 @@ pub present : {A : Type 0} (o : Option A) → is_some o ≡ true → (x : A) × 
 present (Some x) e = (x, refl)
 present None e = absurd cc
 
--- where something is due, want of memory alone refuses it
+-- where something is due, an allocation failure alone refuses it
 pub no_refusal : {A : Type 0} (e : Fault) (d : A) → RefusesRightly e (Some d) → e ≡ fault.NoMemory
 no_refusal fault.NoMemory d h = refl
 no_refusal (fault.Refused wrong left) d h = absurd (some_is_not d h)

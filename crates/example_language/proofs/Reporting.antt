@@ -68,7 +68,7 @@ reported_means text d e short ok sound =
       meant = record { distinct = p.0; meant = p.1; well_formed = ok; sound = sound };
     }
 
--- only for want of memory is a text refused that means something
+-- only an allocation failure refuses a text that means something
 pub memory_of_text : (text : List ℕ) (d : Declared) (r : Result Made LangFault) → Means text d
     → IfErr r (λ e. e.number ≢ 13 → (d : Declared) → Means text d → ⊥) → IfErr r (λ e. e.number ≡ 13)
 memory_of_text text d (Ok v) means refused = tt

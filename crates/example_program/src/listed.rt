@@ -46,7 +46,7 @@ pub fn a_listed_file_declares<P: Opener, O: Sink, F: Sink>(
     types_over(alloc, what, opener, output, faults)
 }
 
-/// Texts that are refused print nothing, and neither does want of memory. Status 1 never comes.
+/// Where texts are refused, and at an allocation failure, nothing is printed. Status 1 never comes.
 pub fn nothing_is_printed_of_a_refusal<P: Opener, O: Sink, F: Sink>(
     alloc: Global,
     what: &TypesTask,

@@ -13,7 +13,7 @@ use Rattle.rpc_message.specs.Spelling.{reply, ReplyBytes}
 use Rattle.rpc_message.specs.Faults.{Place, Xid, MessageType, ReplyStat, AcceptStat, AcceptLow, AcceptHigh, RejectStat}
 use Rattle.rpc_message.specs.Faults.{RejectLow, RejectHigh, AuthStat, before, IsNoStatus, IsOtherKind, StandsIn}
 
--- this fault, or want of memory
+-- this fault, or an allocation failure
 abbrev pub Is : ReplyFault → ReplyFault → Type 0
 Is f g = (f ≡ g) ⊎ (f ≡ faults.NoMemory)
 

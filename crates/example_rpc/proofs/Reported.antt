@@ -12,7 +12,7 @@ use Rattle.rpc_message.specs.Cases.{NoAuth, IsOtherVersion, IsBadCred, IsBadVerf
 version_is_two : (c : CallView) (bytes : List ℕ) → CallBytes c bytes → get_or bytes 11 0 ≡ 2
 version_is_two c bytes h = ap (λ (t : List ℕ). get_or t 11 0) h.parts
 
--- where it is another number, want of memory is no answer
+-- where it is another number, an allocation failure is no answer
 pub takes_none : {A E : Type 0} (r : Result A E) (bytes : List ℕ) → get_or bytes 11 0 ≡ 3
     → OnErr r ((c : CallView) × CallBytes c bytes) → IsOk r
 takes_none (Ok x) bytes three h = refl

@@ -19,7 +19,7 @@ use Rattle.xdr_stream.specs.declared.reader.Progress.{Progress}
 use Rattle.xdr_stream.specs.declared.reader.Progress.TheVariants.{More, Done}
 
 module _ (kinds : List KindView) (place : ℕ) (limits : Bounds) where
-  -- no refusal but want of memory stands against bytes that begin with a value
+  -- no refusal but an allocation failure stands against bytes that begin with a value
   pub memory : (why : Reason) (b : List ℕ) (t : Tree) (x : List ℕ) → IsRefused (HasNoneWithin kinds place limits) why b
       → FitsWithin kinds place limits t → bytes_of kinds place t ++ x ≡ b → why ≡ reason.NoMemory
   memory reason.BadBool b t x none fit e = absurd (none [] tt t x fit (e ∙ sym (append-nil b)))
@@ -92,7 +92,7 @@ module _ (kinds : List KindView) (place : ℕ) (limits : Bounds) where
       ap Done all
   done_at piece t x fit e (Err f) none low = tt
 
-  -- while some value begins with the bytes so far, no fault but want of memory stands against them
+  -- while some value begins with the bytes so far, no fault but an allocation failure stands against them
   no_reason : (why : Reason) (b y : List ℕ) (t : Tree) (x : List ℕ)
       → ((why ≡ reason.NoMemory → ⊥) → (z : List ℕ) → HasNoneWithin kinds place limits (b ++ z))
       → FitsWithin kinds place limits t → bytes_of kinds place t ++ x ≡ b ++ y → why ≡ reason.NoMemory
@@ -113,7 +113,7 @@ module _ (kinds : List KindView) (place : ℕ) (limits : Bounds) where
   waits piece y t fit e (Ok p) h = tt
   waits piece y t fit e (Err f) h = no_reason f.why piece y t [] h.1 fit e
 
-  -- so a second piece that ends such a value is not refused but for want of memory
+  -- so a second piece that ends such a value is not refused but by an allocation failure
   pub waits_second : (first second : List ℕ) (t : Tree) (p : Progress) (r : Result Progress DecodeFault)
       → ((used : ℕ) → p ≡ Done used → r ≡ Ok (Done 0)) → FitsWithin kinds place limits t
       → bytes_of kinds place t ≡ first ++ second
@@ -141,7 +141,7 @@ module _ (kinds : List KindView) (place : ℕ) (limits : Bounds) where
   ended_whole t first second (Done used) More again fit whole answer (Err f) end =
       let other : More ≡ Done 0 = again used refl in absurd cc
 
-  -- and a first piece that begins with a value is not refused but for want of memory
+  -- and a first piece that begins with a value is not refused but by an allocation failure
   pub begun : (piece : List ℕ) (t : Tree) (x : List ℕ) → FitsWithin kinds place limits t
       → bytes_of kinds place t ++ x ≡ piece
       → (r : Result Progress DecodeFault) → AnswersAs kinds place limits ([] ++ taken piece r) r

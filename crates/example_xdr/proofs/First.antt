@@ -73,7 +73,7 @@ pub refused : (s : Lists) (e f : SchemaFault) → length s.kinds ≤ 1024 → fi
 refused s e f few is (inl memory) = inr (ap Some memory)
 refused s e f few is (inr found) = inl (ap Some (faulty s e f few is found))
 
--- a refusal of lists without a flaw is want of memory, or says that a kind has no finite value
+-- a refusal of lists without a flaw is an allocation failure, or says that a kind has no finite value
 otherwise : (s : Lists) (f : SchemaFault) → length s.kinds ≤ 1024 → first_flaw s ≡ None → IsRefused s f
     → (f.why ≡ flaw.NoFiniteValue) ⊎ (f.why ≡ flaw.NoMemory)
 otherwise s f few is (inl memory) = inr (ap (λ (e : SchemaFault). e.why) memory)

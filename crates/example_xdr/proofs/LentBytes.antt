@@ -149,7 +149,7 @@ module _ (kinds : List KindView) (place : ℕ) (limits : Bounds) (units : limits
         h.each ∙ ap (λ (v : Tree). entries kinds place v) (that_value b h.value t s.counts.used x h.whole fit e)
     listed (Err f) h = tt
 
-    -- and nothing but want of memory stands against them
+    -- and nothing but an allocation failure stands against them
     pub only_memory : {A : Type 0} (r : Result A DecodeFault) → IfErr r (λ f. EndsWith kinds place limits b f)
         → IfErr r (λ f. f.why ≡ reason.NoMemory)
     only_memory (Ok x) h = tt

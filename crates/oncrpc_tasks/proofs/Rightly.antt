@@ -21,7 +21,7 @@ use Rattle.oncrpc_answers.specs.declared.answer.Answer.TheVariants as answer
 use Rattle.oncrpc_tasks.specs.Right.{Question, HasOutcome, HasNoValue, IsWhole, IsRefusal, IsRight, shown_of}
 use Rattle.oncrpc_tasks.specs.Stopping.{IsUnsettled}
 
--- a refusal by its reason, where that is neither want of memory nor that the bytes end
+-- a refusal by its reason, where that is neither an allocation failure nor that the bytes end
 refusal_by : (q : Question) (b : List ℕ) (why : Reason) (at : ℕ) → (why ≡ reason.NoMemory → ⊥)
     → ((more : List ℕ) → Ends q.kinds q.place q.limits why (b ++ more) at × HasNoValue q (b ++ more))
     → IsRefusal q b why at

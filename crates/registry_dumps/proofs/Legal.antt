@@ -1,4 +1,4 @@
--- The lists of the registry's types are well formed and sound, so only want of memory refuses them.
+-- The lists of the registry's types are well formed and sound, so only an allocation failure refuses them.
 use Rattle.std.proofs.Common.{◌≡◌, ℕ, zero, suc, ◌<◌, List, [], ◌∷◌, length, Option, Some, None, is_some, Bool}
 use Rattle.std.proofs.Common.{true, false, ◌&&◌, nat_lt, refl, sym, ◌∙◌, arith, ltb-true, subst, inl, inr, Result, Ok}
 use Rattle.std.proofs.Common.{Err, MatchResult}

@@ -59,7 +59,7 @@ module _ (limit at : ℕ) (bytes : List ℕ) (long : TooLongAt limit [] at bytes
       w.stream (sym (take-append-drop used bytes)) in
       omega (arith, ap length more.1)
 
-  -- They are refused at that header, or for want of memory.
+  -- They are refused at that header, or by an allocation failure.
   pub refused_at : (f : RecordFault) (n : ℕ) → IsFeedFault f → FaultyIn limit [] f n bytes
       → (f ≡ fault.TooLong at) ⊎ (f ≡ fault.NoMemory)
   refused_at (fault.TooLong other) n i h = inl (ap fault.TooLong (one_too_long limit other at [] bytes h long))
@@ -69,7 +69,7 @@ module _ (limit at : ℕ) (bytes : List ℕ) (long : TooLongAt limit [] at bytes
   refused_at (fault.Write written) n i h = absurd i
   refused_at fault.TooManyReads n i h = absurd i
 
--- Where no header behind these records is above the limit, feeding fails for want of memory alone.
+-- Where no header behind these records is above the limit, feeding fails by an allocation failure alone.
 pub only_memory : (limit n : ℕ) (rs : List (List ℕ)) (f : RecordFault) (bytes : List ℕ)
     → ((at : ℕ) → TooLongAt limit rs at bytes → ⊥) → IsFeedFault f → FaultyIn limit rs f n bytes → f ≡ fault.NoMemory
 only_memory limit n rs (fault.TooLong at) bytes none i h = absurd (none at h)

@@ -81,7 +81,7 @@ pub Faulty-more : (limit : ℕ) (rs : List (List ℕ)) (f : RecordFault) (bytes 
 Faulty-more limit rs f bytes more h = FaultyIn-more limit (length bytes) (length (bytes ++ more)) rs f bytes more
     (omega (arith, length-append bytes more)) h
 
--- where it came matters for want of memory alone
+-- where it came matters at an allocation failure alone
 pub FaultyIn-other : (limit n m : ℕ) (rs : List (List ℕ)) (f : RecordFault) (bytes : List ℕ)
     → (f ≡ fault.NoMemory → RefusedIn limit rs m bytes)
     → FaultyIn limit rs f n bytes → FaultyIn limit rs f m bytes

@@ -22,7 +22,7 @@ counted r nodes bytes h some each = record {
   pending = ∥∥₁_elim some (ℕ_set _ _) (λ s. (each s).pending);
 }
 
--- want of memory is not answered where none is taken
+-- an allocation failure is not answered where none is taken
 pub granted : {S : Type 0} (z : Type 0) (k : KindView) (r : Result Progress DecodeFault) → ∥ S ∥₁
     → (S → IfErr r (λ f. Spares z k f.why)) → TakesNone z k → IfErr r (λ f. f.why ≡ NoMemory → ⊥)
 granted z k (Ok p) some each free = tt

@@ -42,7 +42,7 @@ found_meant o l (Ok v) e same wf so =
     record { distinct = p.0; meant = p.1 ∙ ap (λ (x : Declared). Some x) (sym same); well_formed = wf; sound = so }
 found_meant o l (Err f) e same wf so = tt
 
--- where something is due, it is refused for want of memory alone, and that is reported
+-- where something is due, it is refused by an allocation failure alone, and that is reported
 pub fails_on : {A : Type 0} (e f : Fault) (due : Option A) (d : A) → due ≡ Some d → RefusesRightly e due
     → (e ≡ fault.NoMemory → f ≡ fault.NoMemory) → RefusesRightly f (Some d)
 fails_on fault.NoMemory f due d is h reported = rw (reported refl) tt

@@ -11,13 +11,13 @@ use Rattle.xdr_types.specs.declared.fault.Flaw.TheVariants as flaw
 use Rattle.xdr_types.specs.declared.fault.SchemaFault.{SchemaFault}
 use Rattle.xdr_types.proofs.Refusing.{refused}
 
--- lists that are well formed and sound are refused for want of memory alone
+-- lists that are well formed and sound are refused by an allocation failure alone
 pub only_memory : (s : Lists) (e : SchemaFault) → IsWellFormed s → IsSound s.kinds → IsRefused s e
     → e.why ≡ flaw.NoMemory
 only_memory s e ok sound (inl m) = ap (λ (x : SchemaFault). x.why) m
 only_memory s e ok sound (inr first) = absurd (refused s e first ok sound)
 
--- what is refused, but not for want of memory, is not due
+-- what is refused, but not by an allocation failure, is not due
 pub refused_is_not_due : {A : Type 0} (e : Fault) (n : ℕ) (a : A) → (e ≡ fault.NoMemory → n ≡ 13) → (n ≡ 13 → ⊥)
     → RefusesRightly e (Some a) → ⊥
 refused_is_not_due fault.NoMemory n a reported not h = not (reported refl)

@@ -14,7 +14,7 @@ use Rattle.xdr_aliases.specs.Aliases.{resolved}
 use Rattle.xdr_dialect.specs.Plain as dialect
 use Rattle.xdr_rpcgen.specs.DialectMeans.{PlainMeans, DialectMeans}
 
--- a fault that is no want of memory says that nothing is due
+-- a fault that is no allocation failure says that nothing is due
 pub nothing_due : {A : Type 0} (f : Fault) (number : ℕ) (x : A) → (f ≡ fault.NoMemory → number ≡ 13) → number ≢ 13
     → RefusesRightly f (Some x) → ⊥
 nothing_due fault.NoMemory number x memory not due = not (memory refl)

@@ -24,7 +24,7 @@ use Rattle.xdr_stream.specs.declared.fault.Reason.TheVariants as reason
 use Rattle.xdr_stream.specs.declared.machine.Awaits.{Awaits}
 use Rattle.xdr_stream.specs.declared.machine.Awaits.TheVariants.{Next, Content, Wide, Low}
 
--- a reason against a unit is not want of memory
+-- a reason against a unit is not an allocation failure
 pub why_spares : (z : Type 0) (k : KindView) (e : Reason) (w : Why) → IsWhy e w → Spares z k e
 why_spares z k reason.BadBool w i = tt
 why_spares z k reason.BadNumbered w i = tt

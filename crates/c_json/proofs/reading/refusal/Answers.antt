@@ -1,4 +1,4 @@
--- A reason that is not want of memory stands in the answer.
+-- A reason that is not an allocation failure stands in the answer.
 use Rattle.c_json.proofs.Unspelled.{refused}
 use Rattle.c_json.proofs.reading.refusal.Goals as goal
 

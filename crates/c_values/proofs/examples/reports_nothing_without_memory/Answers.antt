@@ -1,4 +1,4 @@
--- The one answer with status 6 is want of memory.
+-- The one answer with status 6 is an allocation failure.
 use Rattle.std.proofs.Common.{sym, ◌∙◌}
 use Rattle.c_values.proofs.Reported.{memory_reported}
 use Rattle.c_values.proofs.examples.reports_nothing_without_memory.Goals as goal

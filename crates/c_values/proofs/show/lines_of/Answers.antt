@@ -1,4 +1,4 @@
--- The lines are those of the value that begins the input, which no fault but want of memory stands against.
+-- The lines are those of the value that begins the input, which no fault but an allocation failure stands against.
 use Rattle.std.proofs.Common.{sym, ◌∙◌}
 use Rattle.std.proofs.lemmas.Bool.{false≢true}
 use Rattle.c_values.specs.Answers.{Question}

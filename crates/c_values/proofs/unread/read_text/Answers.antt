@@ -1,4 +1,4 @@
--- A fault that is not want of memory is one of the first twelve.
+-- A fault that is not an allocation failure is one of the first twelve.
 use Rattle.std.proofs.Common.{rules, arith, ◌≡◌}
 use Rattle.std.proofs.Math.Nat.{lt_of_not-le}
 use Rattle.c_values.proofs.unread.read_text.Goals as goal
