@@ -1,10 +1,9 @@
-"""The sentences of documents and of comments, and the map of modules at the head of each crate with many."""
+"""The sentences of documents and of comments, and the map of modules at the head of each file with many."""
 import ast
 import inspect
-import os
 import re
 
-from documents_tree import ROOT, files_below, text_of
+from documents_tree import files_below, text_of
 
 LONGEST = 35
 MAPPED = 4
@@ -86,16 +85,18 @@ def faults_of_comments(path):
             yield f"{path}:{line + text.count(chr(10), 0, at)}: `{said}`: a sentence of {words} words"
 
 
-def roots():
-    """The root of each crate."""
-    there = [f"crates/{it}/src/{name}.rt" for it in sorted(os.listdir(f"{ROOT}/crates")) for name in ("lib", "main")]
-    return [it for it in there if os.path.exists(f"{ROOT}/{it}")]
+def modules_of(path):
+    return re.findall(r"^(?:pub(?:\(\w+\))? )?mod (\w+);", text_of(path), re.M)
+
+
+def mapped():
+    """The files with many modules: roots of crates, and modules that have further ones."""
+    return [it for it in files_below("crates", ".rt") if len(modules_of(it)) >= MAPPED]
 
 
 def faults_of_map(path):
-    """Which modules of a crate with many its head does not name."""
-    modules = re.findall(r"^(?:pub(?:\(\w+\))? )?mod (\w+);", text_of(path), re.M)
+    """Which modules of a file with many its head does not name."""
     head = "\n".join(re.findall(r"^//!.*$", text_of(path), re.M))
-    for name in modules if len(modules) >= MAPPED else ():
+    for name in modules_of(path):
         if f"`{name}`" not in head:
             yield f"{path}:1: `{name}`: a module that the head does not name"

@@ -1,4 +1,8 @@
 //! Tests of `oncrpc_words` by its public calls.
+//!
+//! - `reading`: words that are read. `asked`: the tasks that words ask for; `called` has those of `call` and `ping`,
+//!   `defined` what may be defined for lines `#ifdef`.
+//! - `printed`: what is printed where words ask for no task. `help`: what help says.
 mod asked;
 mod called;
 mod defined;
