@@ -698,7 +698,7 @@ typedef struct {
 /* Starts a registry in `registry`, and gives back what that held before. Its rows are its own: program 100000 in
  * versions 2, 3 and 4, each over tcp and then over udp, at 0.0.0.0 and this port, owned by superuser.
  *
- * `seed` is as many bytes that the peers can not know, 16 of getentropy for one. Rows are found by hashes that depend
+ * `seed` is as many bytes that the peers cannot know, 16 of getentropy for one. Rows are found by hashes that depend
  * on it, so that no peer can choose many that hash alike, which would make each look-up slow. The answers do not depend
  * on it. It may be NULL where its count is 0, but then every peer knows it.
  *

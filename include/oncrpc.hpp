@@ -1052,7 +1052,7 @@ class Registry {
   public:
     Registry() noexcept = default;
 
-    /// A registry with its own rows, at this port. The seed is bytes that the peers can not know.
+    /// A registry with its own rows, at this port. The seed is bytes that the peers cannot know.
     [[nodiscard]] static Answer<Registry> start(std::uint16_t port, Bytes seed) {
         Registry made;
         oncrpc_outcome outcome{};

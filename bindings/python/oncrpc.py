@@ -1530,7 +1530,7 @@ class Records(_Owner):
 
         Returns the place in the piece behind what was taken, from which it is to be fed again; None where all was
         taken, and no record is whole. While a record waits nothing is taken. Raises RefusedError where a header brings
-        its record above the limit, and NoMemoryError; either is raised for ever after.
+        its record above the limit, and NoMemoryError; either is raised from then on.
         """
         piece = _lent(piece)
         if not 0 <= start <= len(piece):

@@ -115,7 +115,7 @@ pub struct Registry {
 
 impl Registry {
     /// A registry with the rows of its own: program 100000 in versions 2, 3 and 4, each over tcp and then over udp, at
-    /// 0.0.0.0 and this port, owned by superuser. The seed is bytes that the peers can not know: rows are found by
+    /// 0.0.0.0 and this port, owned by superuser. The seed is bytes that the peers cannot know: rows are found by
     /// hashes that depend on it. No answer does.
     pub fn start(port: u16, seed: &[u8]) -> Result<Self, RegistryFault> {
         let mut started = Self {

@@ -93,7 +93,7 @@ impl Records {
     /// `Some(used)`: a record is whole, and waits for [`Records::take`]. The first `used` bytes of the piece were
     /// taken, the last of which is the record's last; the others are to be fed again. While a record waits none is
     /// taken.
-    /// `None`: all bytes were taken, and no record is whole. A fault is answered for ever after.
+    /// `None`: all bytes were taken, and no record is whole. A fault is answered from then on.
     pub fn feed(&mut self, piece: &[u8]) -> Result<Option<usize>, StreamFault> {
         let mut outcome = sys::Outcome::default();
         // SAFETY: the piece is a slice; handle and outcome are ours alone and lie apart.
@@ -132,7 +132,7 @@ impl Records {
     }
 
     /// Whether the stream may end behind the bytes that were taken: between two records, or with a record that waits,
-    /// which waits on. A fault is answered for ever after.
+    /// which waits on. A fault is answered from then on.
     pub fn end(&mut self) -> Result<(), StreamFault> {
         let mut outcome = sys::Outcome::default();
         // SAFETY: handle and outcome are ours alone and lie apart.

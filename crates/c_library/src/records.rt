@@ -34,7 +34,7 @@ pub extern "C" fn oncrpc_records_start(
 /// Status 0: a record is whole and waits for `oncrpc_records_take`. The first `at` bytes of the piece were taken, which
 /// end with its last byte, and no other; while it waits none is taken. 23: all were taken, and more are wanted. 2: the
 /// header at the place `at` in the stream would bring its record above the limit, `why` 4, or the stream ended inside a
-/// record before, `why` 8. 6: memory for a record was refused. 2 and 6 are answered for ever after. 22: the handle
+/// record before, `why` 8. 6: memory for a record was refused. 2 and 6 are answered from then on. 22: the handle
 /// holds no reader. A place is the count of the stream's bytes before it, 18446744073709551615 for every greater one.
 #[unsafe(no_mangle)]
 pub extern "C" fn oncrpc_records_feed(
@@ -71,7 +71,7 @@ pub extern "C" fn oncrpc_records_take(
 ///
 /// Status 0: they end with a record's last byte, or there are none. A record that waits waits on, and nothing changes.
 /// 2: they end inside a record, `why` 8, and `at` counts them; or the header at the place `at` had been refused before,
-/// `why` 4. 6: memory had been refused before. 2 and 6 are answered for ever after. 22: the handle holds no reader. A
+/// `why` 4. 6: memory had been refused before. 2 and 6 are answered from then on. 22: the handle holds no reader. A
 /// count or place above 18446744073709551615 is reported as that. It takes no memory.
 #[unsafe(no_mangle)]
 pub extern "C" fn oncrpc_records_end(

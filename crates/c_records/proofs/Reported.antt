@@ -77,7 +77,7 @@ none_taken held left h old new a is none t =
       buffer = given.2;
     }
 
--- ---- a refusal is answered for ever after
+-- ---- a refusal is answered from then on
 
 pub record IsStuck (held : Option Held) (f : RecordFault) : Type 0 where
   pub reader : Held

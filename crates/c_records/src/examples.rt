@@ -173,7 +173,7 @@ pub fn refuses_a_header_above_the_limit(
     (started, fed)
 }
 
-/// A refusal is answered for ever after, with its place, whatever comes; and no record is handed out.
+/// A refusal is answered from then on, with its place, whatever comes; and no record is handed out.
 pub fn stays_refused(
     alloc: Global,
     handle: &mut Records,

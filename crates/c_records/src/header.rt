@@ -1,4 +1,4 @@
-//! The header of a fragment, for who sends it (RFC 5531 section 11).
+//! The header of a fragment, for its sender (RFC 5531 section 11).
 ghost use Rattle.std.specs.Prelude.{◌≡◌, ◌<◌, ◌^◌};
 ghost use Rattle.rpc_record.specs.Marked.{header};
 ghost use Rattle.c_records.specs.Headed.{IsHeaded};

@@ -4,7 +4,7 @@
 //! name that `include/oncrpc.h` gives it.
 //!
 //! - `start`, `feeding`, `taking`, `ending`: a reader begins and is freed, gets pieces, hands records out, and ends.
-//! - `header`: the header of a fragment, for who sends it.
+//! - `header`: the header of a fragment, for its sender.
 //! - `handle`, `state`: the reader that C keeps, and what it holds. `answer`: answers, and how C sees them. `buffer`:
 //!   bytes put into what C lends.
 //! - `examples`: what the contracts make certain for chosen inputs.

@@ -4,7 +4,7 @@ ghost use Rattle.std.specs.Hash.DefaultHasher as sip;
 
 use std::hash::{BuildHasher, DefaultHasher, Hasher};
 
-/// SipHash behind the bytes of a seed, so that who does not know the seed can not choose rows that hash alike.
+/// SipHash behind the bytes of a seed, so that whoever does not know the seed cannot choose rows that hash alike.
 #[derive(Clone, Copy)]
 pub struct Seeded {
     begun: DefaultHasher,

@@ -33,7 +33,7 @@ pub fn answer_by(
     }
 }
 
-/// The kind that the name names, which is no text or the name of none otherwise.
+/// The kind that the name names. None where the name is no text, or that of no kind.
 pub fn kind_asked(declared: &Declared, name: &[u8]) -> Option<KindId>
     ensures { MatchOption result (NamesNone (declared_of declared.now) name.now)
         (λ kind. Names (declared_of declared.now) name.now kind.place) }

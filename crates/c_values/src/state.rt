@@ -53,8 +53,8 @@ impl State {
         &self.declared
     }
 
-    /// The kind that the name names, which is no text or the name of none otherwise. The name that is remembered is not
-    /// looked up; one above 64 bytes, or of no kind, is looked up each time and not remembered.
+    /// The kind that the name names. None where the name is no text, or that of no kind. The name that is remembered is
+    /// not looked up; one above 64 bytes, or of no kind, is looked up each time and not remembered.
     pub fn kind(&mut self, name: &[u8]) -> Option<KindId>
         ensures stay { self.new ≡ self.old }
         ensures kind { MatchOption result (NamesNone (declared_of self.old) name.now)

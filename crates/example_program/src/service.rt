@@ -1,4 +1,4 @@
-//! The registry asked and served: what goes out, what is printed, and when rows can not have changed.
+//! The registry asked and served: what goes out, what is printed, and when rows cannot have changed.
 ghost use Rattle.std.specs.Prelude.{◌≡◌, ◌≢◌, ◌<◌, ◌≤◌, ◌⊎◌, ◌++◌, ℕ, List, [], ◌∷◌, Some, codes};
 
 use oncrpc_service::{Listener, datagrams_on, info_datagram, info_over, serve_on};
@@ -148,7 +148,7 @@ pub fn uses_up_one_for_a_failed_receive<P: DatagramPort, S: BuildHasher, O: Sink
     datagrams_on(alloc, port, 1, directory, output, faults)
 }
 
-/// A datagram that is no call changes no row and has no reply, so that none can not be sent: its line says so, unless
+/// A datagram that is no call changes no row and has no reply, so that none fails to be sent: its line says so, unless
 /// it could not be received.
 pub fn says_that_there_is_no_reply<P: DatagramPort, S: BuildHasher, O: Sink, F: Sink>(
     alloc: Global,

@@ -92,7 +92,7 @@ pub fn wants_the_procedure(alloc: Global, bytes: &[u8]) -> Result<CallRead, NoMe
     read_call(alloc, bytes)
 }
 
-/// With 24 bytes it is a call whose credential can not be read.
+/// With 24 bytes it is a call whose credential cannot be read.
 pub fn reports_the_missing_credential(alloc: Global, bytes: &[u8]) -> Result<CallRead, NoMemory>
     requires { bytes.now ≡
         0 ∷ 0 ∷ 0 ∷ 1 ∷ 0 ∷ 0 ∷ 0 ∷ 0 ∷ 0 ∷ 0 ∷ 0 ∷ 2 ∷ 0 ∷ 1 ∷ 134 ∷ 160 ∷ 0 ∷ 0 ∷ 0 ∷ 2 ∷ 0 ∷ 0 ∷ 0 ∷ 0 ∷ [] }

@@ -177,7 +177,7 @@ pub fn ends_between_two_records(reader: &mut RecordReader) -> Result<(), RecordF
     reader.end()
 }
 
-/// A fault is answered for ever after, whatever comes.
+/// A fault is answered from then on, whatever comes.
 pub fn stays_broken(
     reader: &mut RecordReader,
     fault: RecordFault,

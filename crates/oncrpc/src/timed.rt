@@ -1,4 +1,5 @@
-//! Connections and datagrams that are waited for until a moment, and no longer. They tell nothing of what they do.
+//! Connections and datagrams that are waited for until a moment, and no longer. Their contracts say nothing of what
+//! they do.
 ghost use Rattle.std.specs.Prelude.{◌≤◌, IfOk, length};
 
 use rpc_engine::{DatagramPort, PortFault};

@@ -73,7 +73,7 @@ pub fn call_datagram<P: DatagramPort, O: Sink, F: Sink>(
     end_with(alloc, asked, answer, output, faults)
 }
 
-// Prints what the answer says, or why that can not be done, and gives the status.
+// Prints what the answer says, or why that cannot be done, and gives the status.
 fn end_with<O: Sink, F: Sink>(
     alloc: Global,
     asked: &Asked,

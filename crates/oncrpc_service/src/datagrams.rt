@@ -13,9 +13,9 @@ use std::hash::BuildHasher;
 use xdr_io::Sink;
 
 /// Answers `count` datagrams from the registry, one after another, and prints a line for each, `datagram K: reply` or
-/// `datagram K: no reply`, K from 1. A datagram that can not be received has the line `datagram K: Read`, and a reply
-/// that can not be sent `datagram K: Write`; each counts as one of them, and the next follows. Status 0 after the last;
-/// 3 where a line can not be printed, 4 where memory for a line is refused. Both write a line to `faults`.
+/// `datagram K: no reply`, K from 1. A datagram that cannot be received has the line `datagram K: Read`, and a reply
+/// that cannot be sent `datagram K: Write`; each counts as one of them, and the next follows. Status 0 after the last;
+/// 3 where a line cannot be printed, 4 where memory for a line is refused. Both write a line to `faults`.
 pub fn datagrams_on<P: DatagramPort, S: BuildHasher, O: Sink, F: Sink>(
     alloc: Global,
     port: &mut P,

@@ -74,7 +74,7 @@ pub fn info_datagram<P: DatagramPort, O: Sink, F: Sink>(
     end_with(alloc, output, faults, vers, answer)
 }
 
-// Prints what the answer says, or why that can not be done, and gives the status.
+// Prints what the answer says, or why that cannot be done, and gives the status.
 fn end_with<O: Sink, F: Sink>(
     alloc: Global,
     output: &mut O,

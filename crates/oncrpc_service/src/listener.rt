@@ -7,7 +7,7 @@ ghost use Rattle.oncrpc_service.specs.Listening.{Arrives, IsFresh, Leaves};
 use thiserror::Error;
 use xdr_io::{Sink, Source};
 
-/// No connection could be had, for whatever reason.
+/// No connection could be accepted, for whatever reason.
 #[derive(Clone, Copy, Debug, PartialEq, Eq, Error)]
 #[error("no connection")]
 pub struct AcceptFault;
@@ -29,7 +29,7 @@ pub trait Listener {
     /// What went to the clients whose connections have ended, to each all of it, where that is reported.
     ghost sent: { Self → Option (List (List ℕ)) } = { λ _. None };
 
-    /// How many times no connection could be had, where that is reported.
+    /// How many times no connection could be accepted, where that is reported.
     ghost failures: { Self → Option ℕ } = { λ _. None };
 
     /// The port at which clients are waited for.

@@ -4,7 +4,7 @@ use std::io;
 use std::net::{Ipv4Addr, Net, SocketAddr, TcpListener, TcpStream};
 use xdr_io::{FromRead, IntoWrite};
 
-/// Waits for clients at a port of 127.0.0.1 over TCP. It tells nothing of them.
+/// Waits for clients at a port of 127.0.0.1 over TCP. Its contract says nothing of them.
 #[derive(Drop)]
 pub struct Loopback {
     listener: TcpListener,

@@ -18,7 +18,7 @@ use xdr_io::{Sink, write_whole};
 
 /// Prints `listening on 127.0.0.1 PORT`, and then serves `count` connections, one after another, from the registry, a
 /// line for each once it has ended. What is wrong with a connection ends that connection alone. Status 0 after the
-/// last; 3 where a line can not be printed, or where no connection comes, `socket fault`; 4 where memory for a line is
+/// last; 3 where a line cannot be printed, or where no connection comes, `socket fault`; 4 where memory for a line is
 /// refused. All but 0 write a line to `faults`.
 pub fn serve_on<L: Listener, S: BuildHasher, O: Sink, F: Sink>(
     alloc: Global,
@@ -56,7 +56,7 @@ pub fn report_socket<F: Sink>(faults: &mut F) -> u8
 
 /// Why serving ended before its last connection had its line.
 enum Stop {
-    /// No connection could be had.
+    /// No connection could be accepted.
     NoConnection,
     /// A line could not be printed.
     Failed(Failure),

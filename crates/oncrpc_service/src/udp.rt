@@ -4,7 +4,7 @@ use std::io;
 use std::net::{Ipv4Addr, Ipv6Addr, Net, SocketAddr, UdpSocket};
 
 /// A port of 127.0.0.1 over UDP, for a server: what it sends goes to the sender of the last datagram that it received.
-/// It tells nothing of them.
+/// Its contract says nothing of them.
 #[derive(Drop)]
 pub struct LoopbackPort {
     socket: UdpSocket,
@@ -41,7 +41,7 @@ impl DatagramPort for LoopbackPort {
     }
 }
 
-/// A port over UDP, for a client: it sends to its peer, and receives from it alone. It tells nothing of them.
+/// A port over UDP, for a client: it sends to its peer, and receives from it alone. Its contract says nothing of them.
 #[derive(Drop)]
 pub struct ClientPort {
     socket: UdpSocket,

@@ -51,8 +51,8 @@ pub struct Sockets {
     port: u16,
     clients: Clients,
     may_accept: bool,
-    /// The last connection could not be accepted, as for want of descriptors: the next is, once a client has gone or
-    /// some time has passed.
+    /// The last connection could not be accepted, as where all descriptors are in use. It is tried again once a client
+    /// has gone or some time has passed.
     is_short: bool,
     /// When idle clients were looked for last.
     looked: Instant,

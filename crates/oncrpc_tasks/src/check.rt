@@ -27,7 +27,7 @@ use xdr_types::{KindId, Limits, Schema};
 /// `refused bad hex` or `refused hex too long` may come, status 1. A device that fails or too many reads are status 3,
 /// an allocation failure is status 4, and then `faults` gets the line. The schema must have the kind.
 ///
-/// The input is judged as it is read, by pages of 4096 bytes, and no value is made of it. Reading stops at a refusal,
+/// The input is judged as it is read, by pages of 4096 bytes, and no value is built. Reading stops at a refusal,
 /// so that a read that would fail after it is not met; after a value it goes on until one more byte or the end is
 /// seen. With `hex` all of the input is read first.
 pub fn check_over<I: Source, O: Sink, F: Sink>(

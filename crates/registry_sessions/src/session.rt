@@ -122,7 +122,7 @@ impl Session {
     /// Takes bytes of a piece that the peer sent, at most up to the end of a record, and answers that record (RFC 5531
     /// sections 9 and 11): its reply stands behind the output. `Full`: more bytes than the bound wait, and nothing was
     /// taken. A fault takes the piece: `TooLong`, at a header that brings its record above 65536 bytes, and `NoMemory`,
-    /// where memory was refused for a record or its reply. It is answered for ever after, and the rows and the output
+    /// where memory was refused for a record or its reply. It is answered from then on, and the rows and the output
     /// are those of the records before.
     pub fn take_in<S: BuildHasher>(
         &mut self,
@@ -236,7 +236,7 @@ impl Session {
     {}
 
     /// Tells that the peer sends no more: well between two records, which changes nothing. Inside one it is `Truncated`
-    /// after the bytes taken, for ever after, and an earlier fault is answered again. The output stays.
+    /// after the bytes taken, from then on, and an earlier fault is answered again. The output stays.
     pub fn end(&mut self) -> Result<(), SessionFault>
         // What the answer says of all bytes that were ever taken.
         ensures concludes { Concludes self.old self.new result }

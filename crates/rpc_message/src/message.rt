@@ -125,7 +125,7 @@ pub enum Status {
     ProgMismatch { low: u32, high: u32 },
     /// The program has no such procedure.
     ProcUnavail,
-    /// The arguments can not be read.
+    /// The arguments cannot be read.
     GarbageArgs,
     /// The call failed here, as where memory is refused.
     SystemErr,

@@ -5,7 +5,7 @@
 //!   of one fragment.
 //! - `stream` reads a source and hands out its records, one after another; `normal` writes their normal form through
 //!   `outbox`, which gathers output; `marks` writes one record.
-//! - `fault` has why records cannot be had, and the counts; `laws` are theorems about the definitions.
+//! - `fault` has the faults, and the counts; `laws` are theorems about the definitions.
 #![tactic(auto)]
 
 mod fault;

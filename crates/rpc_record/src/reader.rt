@@ -54,7 +54,7 @@ impl RecordReader {
     /// Takes the bytes of a piece, which may be empty, up to the end of a record (RFC 5531, section 11). `More`: all
     /// were taken. `Whole`: a record waits, and the first `used` bytes were taken, which end with its last byte; while
     /// it waits nothing more is. `TooLong`, at a header that brings its record above the limit, and `NoMemory` take
-    /// the whole piece and are answered for ever after.
+    /// the whole piece and are answered from then on.
     pub fn feed(&mut self, piece: &[u8]) -> Result<RecordStep, RecordFault>
         ensures limit { limit_of self.new ≡ limit_of self.old }
         // What was taken, and where the reader is then.
@@ -231,7 +231,7 @@ impl RecordReader {
     }
 
     /// Ends the input: well between two records and while one waits, which changes nothing. Inside a record it is
-    /// `Truncated` after the bytes taken, for ever after, and an earlier fault is answered again.
+    /// `Truncated` after the bytes taken, from then on, and an earlier fault is answered again.
     pub fn end(&mut self) -> Result<(), RecordFault>
         ensures limit { limit_of self.new ≡ limit_of self.old }
         // Where the reader was, and where it is then.

@@ -12,7 +12,7 @@ use thiserror::Error;
 /// How many reads a loop over a source makes at most.
 pub const MOST_READS: u32 = 1048576;
 
-/// Why an input could not be had.
+/// Why reading an input failed.
 #[derive(Clone, Copy, Debug, PartialEq, Eq, Error)]
 pub enum InputFault {
     /// A read failed.

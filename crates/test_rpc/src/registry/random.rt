@@ -52,7 +52,7 @@ fn owner(number: u32) -> Owner {
     }
 }
 
-/// The number of a transport, one that there is not for netids other than `tcp` and `udp`.
+/// The number of a transport, an unknown one for netids other than `tcp` and `udp`.
 fn prot(netid: u32) -> u32 {
     match netid {
         1 => 6,
