@@ -8,8 +8,8 @@ use Rattle.xdr_types.specs.Fits.{fits}
 use Rattle.xdr_types.specs.Spelling.{bytes_of}
 use Rattle.example_xdr.specs.Rfc.{part, arm}
 
--- the element's kind, bool and void, and then three kinds of it: optional data at place 3, at place 4 the union of bool
--- that has the element under TRUE and void under FALSE, at place 5 the array of at most one
+-- the element's kind, bool and void, and then three kinds of it. Optional data is at place 3, at place 4 the union of
+-- bool that has the element under TRUE and void under FALSE, at place 5 the array of at most one
 abbrev pub optional_kinds : KindView → List KindView
 optional_kinds element =
     element

@@ -17,7 +17,7 @@ pub record Wanted : Type 0 where
 abbrev pub wanted_of : Asked → Wanted
 wanted_of a = record { kinds = a.schema.kinds; place = a.result.place; limits = a.limits; form = a.form }
 
--- The call can be made and its results be judged: the schema has their kind, credential and verifier are short enough
+-- The call can be made and its results be judged. The schema has their kind; credential and verifier are short enough
 -- for a message (RFC 5531 section 8.2), and the call is for one fragment (RFC 5531 section 11).
 pub record CanBeMade (a : Asked) : Type 0 where
   pub known : a.result.place < length a.schema.kinds

@@ -45,8 +45,8 @@ IsAt text at line column =
 abbrev pub IsPlace : (text : List ℕ) → (line column : ℕ) → Type 0
 IsPlace text line column = (at : ℕ) × (at ≤ length text) × IsAt text at line column
 
--- The refusal is right for the text: it is too long, which is decided first; or it spells no value within the limits,
--- the reason is right of it, and the line and the column are those of a place in it.
+-- The refusal is right for the text. The text is too long, which is decided first. Or it spells no value within the
+-- limits, the reason is right of it, and the line and the column are those of a place in it.
 abbrev pub IsRightRefusal : Sought → (text : List ℕ) → Refusal → Type 0
 IsRightRefusal s text (refusal.At why line column) =
     (length text ≤ most_text s) × SpellsNone s.kinds s.place s.limits text

@@ -21,7 +21,7 @@ abbrev pub begins_with_digit : List ℕ → Bool
 begins_with_digit [] = false
 begins_with_digit (b ∷ bs) = is_ascii_digit b
 
--- whether a part means what has this name and this number: a part that begins with a digit is the number in decimal,
+-- whether a part means what has this name and this number. A part that begins with a digit is the number in decimal,
 -- and every other is the name, since no name begins with a digit (RFC 4506 section 6.2)
 abbrev pub means : (part name : List ℕ) → (number : ℕ) → Bool
 means part name number = if begins_with_digit part then bytes_eq part (decimal number) else bytes_eq part name

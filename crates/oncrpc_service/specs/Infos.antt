@@ -50,7 +50,7 @@ BeginsWith kind bytes t =
     FitsWithin dir_kinds kind dump_limits t × ((rest : List ℕ) × (bytes ≡ bytes_of dir_kinds kind t ++ rest))
 
 -- The status and the text of results: a header and a line for each row with which they begin, or why they begin with
--- none, by the reason and the place of their outcome as the kind of the rows.
+-- none. That is told by the reason and the place of their outcome as the kind of the rows.
 pub data ReportsRows (vers : ℕ) (results : List ℕ) : (status : ℕ) → (text : List ℕ) → Type 0 where
   rows : (rs : List Row) → vers ≢ 2 → BeginsWith 14 results (rpcb_list rs)
       → ReportsRows vers results 0 (header vers ++ flat_map row_line rs)

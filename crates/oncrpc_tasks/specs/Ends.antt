@@ -40,8 +40,8 @@ abbrev pub StopsReading : Question → (hex : Bool) → (left left' : Option (Li
 StopsReading q hex left left' reads reads' =
     IsPlain hex → IsUnread left left' reads reads' ⊎ LastRead q left left' reads reads'
 
--- What the status says where a value is asked for: 0 and 1 what is right was printed and nothing failed; 3 a device
--- failed, and nothing was printed or the beginning of what is right; 4 memory was refused, and nothing was printed.
+-- What the status says where a value is asked for. 0 and 1: what is right was printed and nothing failed. 3: a device
+-- failed, and nothing was printed or the beginning of what is right. 4: memory was refused, and nothing was printed.
 pub record ValueEnds {I O F : Type 0} (q : Question) (hex : Bool) (reports : Reports I O) (stream : Stream F)
     (input input' : I) (output output' : O) (faults faults' : F) (status : ℕ) : Type 0 where
   pub known : status ≤ 4

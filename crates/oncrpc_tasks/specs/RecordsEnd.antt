@@ -55,8 +55,8 @@ abbrev pub ReadsAtMost : (hex : Bool) → (left left' : Option (List ℕ)) → T
 ReadsAtMost true left left' = MovesAtMost (most_read true 0) left left'
 ReadsAtMost false left left' = ⊤
 
--- What the status says: 0 all records were written; 1 those before what is refused; 2 the limit is out of its range,
--- and nothing was read or written; 3 a device failed; 4 memory was refused.
+-- What the status says. 0: all records were written. 1: those before what is refused were. 2: the limit is out of its
+-- range, and nothing was read or written. 3: a device failed. 4: memory was refused.
 pub record RecordsEnd {I O F : Type 0} (limit : ℕ) (hex : Bool) (reports : Reports I O) (input input' : I)
     (output output' : O) (faults faults' : F) (status : ℕ) : Type 0 where
   pub known : status ≤ 4

@@ -10,7 +10,7 @@ use Rattle.registry_dumps.specs.Dir.{unsigned_kind, bool_kind, void_kind, string
 use Rattle.registry_dumps.specs.Dir.{mapping_kind, mapping_list_kind}
 use Rattle.registry_dumps.specs.Dumps.{number, content, rpcb_list, mapping_list}
 
--- A procedure: the places of its arguments' kind and its results' kind among the registry's kinds, and its step, which
+-- A procedure: the places of its arguments' kind and its results' kind among the registry's kinds, and its step. That
 -- makes of the rows, the transport's netid, the owner and the arguments the new rows and the results.
 pub record Procedure : Type 0 where
   pub takes : ℕ

@@ -16,8 +16,8 @@ use Rattle.registry_sessions.specs.Represents.{output_of, fault_in}
 use Rattle.registry_sessions.specs.Events.{Event, Arrival, Record, Datagram, InOrder, brought, written, open_after}
 use Rattle.registry_sessions.specs.Events.{message_of, transport_of, records_of}
 
--- Each is answered by the rows that the one before left, with a yes or no of refused memory for each: the rows in the
--- end, and what is sent for each, silence or one reply.
+-- Each is answered by the rows that the one before left, and for each memory is refused or not: the rows in the end,
+-- and what is sent for each, silence or one reply.
 abbrev pub MergedRun : List Row → List Arrival → (refusals : List Bool) → (new : List Row)
     → (sent : List (Option (List ℕ))) → Type 0
 MergedRun rows [] [] new [] = new ≡ rows

@@ -30,8 +30,8 @@ pub record AreOf (i : ℕ) (events : List Event) : Type 0 where
   pub others : (j : ℕ) → j ≢ i → brought j events ≡ []
   pub no_datagrams : flat_map datagram_in events ≡ []
 
--- Where one connection alone was served and its bytes are whole records, rows, replies and counts are those that
--- `serve` has of a source that gave these bytes and ended, and of a sink that took all replies.
+-- Where one connection alone was served and its bytes are whole records, rows, replies and counts are those of `serve`.
+-- That has a source that gave these bytes and ended, and a sink that took all replies.
 abbrev pub AloneServes : Type 0
 AloneServes = (rows new : List Row) (events : List Event) (open_at : Sessions) (sent : List (List ℕ)) (i : ℕ)
     (left left' taken taken' : Option (List ℕ)) (served : Served)

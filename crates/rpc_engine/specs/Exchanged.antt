@@ -33,7 +33,7 @@ IsNoReply bytes = (r : ReplyView) → ReplyBytes r bytes → ⊥
 abbrev pub IsFirst : List ℕ → List ℕ → Type 0
 IsFirst r input = Begins most_reply (r ∷ []) input
 
--- What the first record of an input is to a call: its reply, a reply with another xid, no reply, or there is none,
+-- What the first record of an input is to a call: its reply, a reply with another xid, or no reply. Or there is none,
 -- since a header passes the limit at a place or since the input ends before it is whole.
 pub data Outcome : Type 0 where
   Replied : (reply : ReplyView) → Outcome
@@ -115,7 +115,7 @@ write_failures (Ok x) = 0
 write_failures (Err f) = writes_failed f
 
 -- What an exchange of this call wrote and read: what went out of the call's record, and that the answer is what the
--- bytes that were read are to this call, as is all that the reader holds, where it reports that.
+-- bytes that were read are to this call. So is all that the reader holds, where it reports that.
 pub record Exchanges (c : CallView) (left left' taken taken' : Option (List ℕ)) (result : Result Reply ClientFault)
     : Type 0 where
   pub wrote : Wrote (call c) taken taken' result

@@ -37,13 +37,13 @@ limits_of c = c.reader.limits
 abbrev pub RepresentsBytes : Checker → (b : List ℕ) → Type 0
 RepresentsBytes c b = stream.Checks c.reader b
 
--- the answer to a piece is the outcome of the bytes b before it and all of its own: more to come where it is pending,
--- done where a value is whole, a fault where it is one of this reason at this place, unless memory was refused
+-- the answer to a piece is the outcome of the bytes b before it and all of its own, unless memory was refused. It is
+-- more to come where that is pending, done where a value is whole, a fault where it is one of this reason at this place
 abbrev pub HasOutcome : Checker → (b piece : List ℕ) → Result Progress DecodeFault → Type 0
 HasOutcome c b piece r = reported.Answers (kinds_of c) (kind_of c).place (limits_of c) b piece r
 
--- the answer to the end of the bytes b is their outcome: the count of the value that is whole, a fault of this reason
--- at this place, and cut short at their count where it is pending
+-- the answer to the end of the bytes b is their outcome: the count of the value that is whole, or a fault of this
+-- reason at this place. It is cut short at their count where it is pending
 abbrev pub CountsIn : Checker → (b : List ℕ) → Result ℕ DecodeFault → Type 0
 CountsIn c b r = Counts (kinds_of c) (kind_of c).place (limits_of c) b r
 

@@ -18,8 +18,8 @@ IsWaiting d = reported.IsWaiting d.reader.state
 abbrev pub CountsFields : Decoder → Held → Type 0
 CountsFields d h = stream.Counts d.reader h
 
--- after the bytes b: with u whole units at most (kinds + 1) (u + 1) nodes, a frame more than the limit on depth, no
--- more content than bytes, and less than a unit (RFC 4506 section 3)
+-- after the bytes b, with u whole units: at most (kinds + 1) (u + 1) nodes, and a frame more than the limit on depth.
+-- There is no more content than bytes, and less than a unit waits (RFC 4506 section 3)
 abbrev pub IsHeldWithin : Decoder → (b : List ℕ) → Held → Type 0
 IsHeldWithin d b h = stream.IsWithin (kinds_of d) (limits_of d) b h
 

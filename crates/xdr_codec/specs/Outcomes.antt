@@ -8,8 +8,8 @@ use Rattle.xdr_stream.specs.declared.reader.Progress.{Progress}
 use Rattle.xdr_codec.specs.Settings.{kinds_of, kind_of, limits_of}
 use Rattle.xdr_codec.specs.declared.decoder.Decoder.{Decoder}
 
--- the answer to a piece is the outcome of the bytes b before it and all of its own: more to come where it is pending,
--- done where a value is whole, a fault where it is one of this reason at this place, unless memory was refused
+-- the answer to a piece is the outcome of the bytes b before it and all of its own, unless memory was refused. It is
+-- more to come where that is pending, done where a value is whole, a fault where it is one of this reason at this place
 abbrev pub HasOutcome : Decoder → (b piece : List ℕ) → Result Progress DecodeFault → Type 0
 HasOutcome d b piece r = reported.Answers (kinds_of d) (kind_of d).place (limits_of d) b piece r
 

@@ -30,7 +30,7 @@ HasNoneWithin kinds place limits b = (t : Tree) (x : List ℕ) → FitsWithin ki
 abbrev pub IsRefused : (List ℕ → Type 0) → Reason → List ℕ → Type 0
 IsRefused Claim why b = (y : List ℕ) → MayFollow why y → Claim (b ++ y)
 
--- what a fault says of an input: no value of the kind within the limits begins it, whatever may follow it; its place
+-- what a fault says of an input: no value of the kind within the limits begins it, whatever may follow it. The place
 -- lies within the input, and at its end where the input is cut
 pub record Refuses {A : Type 0} (kinds : List KindView) (kind : ℕ) (limits : Bounds) (input : List ℕ)
     (answer : Result A DecodeFault) : Type 0 where

@@ -104,7 +104,7 @@ plain_from names s (b ∷ bs) = with_turn (turn names s b bs) (suc (length bs)) 
 abbrev pub beginning : Standing
 beginning = record { spot = spot.Fresh; gate = gate.Outside; outer = []; defines = [] }
 
--- The text without its lines of % and #, where these names are defined, or the first fault of those lines: a line that
--- has no meaning where it stands, at its #, or at the end a section that is open.
+-- The text without its lines of % and #, where these names are defined, or the first fault of those lines. That is a
+-- line that has no meaning where it stands, at its #, or at the end a section that is open.
 abbrev pub plain : (names : List (List ℕ)) → List ℕ → Result (List ℕ) Fault
 plain names text = plain_from names beginning text

@@ -186,8 +186,8 @@ pub record TellsArm (kinds : List KindView) (tag : ℕ) (arms : List Branch) (ot
   pub tells : TellsTag (kind_at kinds tag) ms number
   pub is : part_of arms other number ≡ Some p
 
--- the members that an object is to have, by their names: the fields of a structure (RFC 4506 section 4.14); those of a
--- union once its discriminant tells an arm (section 4.15); none by name of another kind
+-- the members that an object is to have, by their names: the fields of a structure (RFC 4506 section 4.14). Those of a
+-- union come once its discriminant tells an arm (section 4.15); another kind has none by name
 abbrev pub Wants : List KindView → KindView → Json → List Part → Type 0
 Wants kinds (xdr.structure fields) (json.object ms) ps = ps ≡ fields
 Wants kinds (xdr.choice tag arms other) (json.object ms) ps =

@@ -1,5 +1,5 @@
--- What a text meant before long and struct NAME were words of the language, as RFC 4506 and RFC 5531 have it: long was
--- a name, no type was reported by "struct" identifier, and a struct's definition declared its name as every other does.
+-- What a text meant before long and struct NAME were words of the language, as RFC 4506 and RFC 5531 have it. Then long
+-- was a name, no type was told by "struct" identifier, and a struct's definition declared its name as every other does.
 use Rattle.std.specs.Prelude.{◌≡◌, ◌≤◌, ℕ, Bool, true, false, List, All, length, map, IfSome, filter, codes}
 use Rattle.xdr_tokens.specs.declared.token.Keyword.{Keyword}
 use Rattle.xdr_tokens.specs.declared.token.Keyword.TheVariants as word

@@ -9,8 +9,8 @@ use Rattle.xdr_types.specs.Fits.{parts, item_part}
 use Rattle.xdr_types.specs.Spelling.{own, spelling}
 use Rattle.xdr_types.specs.Layout.{Entry, shown}
 
--- a node of a value: the place and the depth that the layout gives it, the part that it stands for, what it shows by
--- itself and the values of its parts (RFC 4506 section 4)
+-- a node of a value (RFC 4506 section 4): the place and the depth that the layout gives it, and the part that it stands
+-- for. Then what it shows by itself, and the values of its parts
 pub record Node : Type 0 where
   pub place : ℕ
   pub depth : ℕ

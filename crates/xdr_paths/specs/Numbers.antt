@@ -16,7 +16,7 @@ HasNumber Length = ⊤
 HasNumber _ = ⊥
 
 -- the bytes are those of a number of this kind: a signed or an unsigned one of a unit, or of two (RFC 4506 sections 4.1
--- to 4.5); a flag and a length are unsigned (sections 4.10 to 4.13, 4.19)
+-- to 4.5). A flag and a length are unsigned (sections 4.10 to 4.13, 4.19)
 abbrev pub IsNumberIn : KindView → (bytes : List ℕ) → ℤ → Type 0
 IsNumberIn xdr.int bytes z = FitsSigned w32 z × (bytes ≡ num4 z)
 IsNumberIn (xdr.numbered members) bytes z = FitsSigned w32 z × (bytes ≡ num4 z)

@@ -55,8 +55,8 @@ pub record IsCount {B : Type 0} (r : Reader B) (nodes bytes : ℕ) (h : Held) : 
 abbrev pub Counts : Reader Values → Held → Type 0
 Counts r h = IsCount r (nodes_at r.state (nodes_in (trace_of r.built).levels)) (bytes_retained (trace_of r.built)) h
 
--- after the bytes b: with u whole units at most (kinds + 1) (u + 1) nodes, a frame more than the limit on depth, no
--- more content than bytes, and less than a unit (RFC 4506 section 3)
+-- after the bytes b, with u whole units: at most (kinds + 1) (u + 1) nodes, and a frame more than the limit on depth.
+-- There is no more content than bytes, and less than a unit waits (RFC 4506 section 3)
 pub record IsWithin (kinds : List KindView) (limits : Bounds) (b : List ℕ) (h : Held) : Type 0 where
   pub frames : h.frames ≤ limits.depth + 1
   pub nodes : h.nodes ≤ (length kinds + 1) * (length b / 4 + 1)

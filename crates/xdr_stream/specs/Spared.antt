@@ -5,7 +5,7 @@ use Rattle.xdr_types.specs.Kinds.{KindView}
 use Rattle.xdr_stream.specs.declared.fault.Reason.{Reason}
 use Rattle.xdr_stream.specs.declared.fault.Reason.TheVariants as reason
 
--- A value of the kind is read without memory (RFC 4506 sections 4.1 to 4.11, 4.16): it has no parts, so that no node
+-- A value of the kind is read without memory (RFC 4506 sections 4.1 to 4.11, 4.16). It has no parts, so that no node
 -- opens, and what content it has is spared, which no builder of values does.
 abbrev pub TakesNone : (spares : Type 0) → KindView → Type 0
 TakesNone spares xdr.int = ⊤

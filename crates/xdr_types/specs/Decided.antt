@@ -10,8 +10,8 @@ use Rattle.xdr_types.specs.declared.decided.Decided.{Decided}
 abbrev pub IsSpelled : List KindView → (place : ℕ) → List ℕ → Type 0
 IsSpelled kinds place bs = (t : Tree) × Fits kinds place t × (bytes_of kinds place t ≡ bs)
 
--- all values of the kind at the place have the unit, and as many bytes as one of them has are those of a value, where
--- the unit among them is a value of the kind that decides (RFC 4506 sections 4.3, 4.4, 4.14)
+-- all values of the kind at the place have the unit. As many bytes as one of them has are those of a value, where the
+-- unit among them is a value of the kind that decides (RFC 4506 sections 4.3, 4.4, 4.14)
 pub record IsDecided (kinds : List KindView) (place : ℕ) (d : Decided) : Type 0 where
   pub known : d.kind.place < length kinds
   pub units : d.at % 4 ≡ 0

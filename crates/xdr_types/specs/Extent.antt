@@ -14,7 +14,7 @@ pub record IsBounded (e : Extent) : Type 0 where
   pub low : 0 < e.depth
   pub shallow : e.depth ≤ 16
 
--- each value of the kind at the place has so many bytes and so many levels; where the extent is free, any so many bytes
+-- each value of the kind at the place has so many bytes and so many levels. Where the extent is free, any so many bytes
 -- are those of a value (RFC 4506 sections 4.1 to 4.5, 4.9, 4.12, 4.14)
 pub record IsExtent (kinds : List KindView) (place : ℕ) (e : Extent) : Type 0 where
   pub within : place < length kinds

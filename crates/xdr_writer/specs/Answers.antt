@@ -68,7 +68,7 @@ IsOfBytes f = f.why ≡ reason.NoMemory → ⊥
 abbrev pub IsPending : List KindView → (kind : ℕ) → Bounds → (b : List ℕ) → Type 0
 IsPending kinds kind limits b = Outcome kinds kind limits b outcome.Pending
 
--- What a refusal says of the items so far and the next: of more than one reason the first counts, what decoding the
+-- What a refusal says of the items so far and the next. Of more than one reason the first counts: what decoding the
 -- bytes so far says, the item's form, its range, the limit on bytes, and what decoding its bytes says.
 abbrev pub Refuses : List KindView → (kind : ℕ) → Bounds → (is : List NodeItem) → ItemView → Why → Type 0
 Refuses kinds kind limits is i why.WrongItem =
@@ -106,7 +106,7 @@ HasNoValue kinds kind limits is i =
     → items_of kinds kind v ≡ items is ++ i ∷ rest → ⊥
 
 -- What a refusal of an item says and leaves: the reason, and the count of the items before it; that no value has them
--- and then this one; nothing of it is written, and the refusal stays.
+-- and then this one. Nothing of it is written, and the refusal stays.
 pub record Rejects (a b : Writer) (i : ItemView) (before after : List ℕ) (answer : Result Step WriteRefusal)
     : Type 0 where
   pub refuses : IfErr answer (λ f. (is : List NodeItem) → RepresentsItems a is

@@ -24,8 +24,8 @@ item_view (put.Flag b) = flag b
 item_view (put.Count n) = count n
 item_view (put.Content s) = content s.now
 
--- the bytes of an item of a node of this kind: a hyper integer has eight, content has its length before it, save where
--- its size is fixed, and the zeros after it (RFC 4506 sections 3 and 4)
+-- the bytes of an item of a node of this kind (RFC 4506 sections 3 and 4). A hyper integer has eight; content has its
+-- length before it, save where its size is fixed, and the zeros after it
 abbrev pub spelled_as : KindView → ItemView → List ℕ
 spelled_as kind (flag b) = num4 (number_of b)
 spelled_as kind (count n) = num4 (pos n)

@@ -36,7 +36,7 @@ IsFed reader = IsFedAt reader.place
 abbrev pub IsStepped : RecordReader → Type 0
 IsStepped reader = IsSteppedAt reader.place
 
--- Taking some of a piece: at least one byte and not more than there are, after which the reader stands for these bytes
+-- Taking some of a piece: at least one byte and not more than there are. After that the reader stands for these bytes
 -- too, where feeding can lead; and memory was refused for them, if it was.
 pub record Advances (old new : RecordReader) (piece : List ℕ) (n : ℕ) : Type 0 where
   pub some : 0 < n

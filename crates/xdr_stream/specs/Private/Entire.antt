@@ -28,7 +28,7 @@ IsOneLeaf kinds place bytes leaf = Fits kinds place (leaf_tree (head_of_leaf lea
 abbrev pub IsPadded : (size : ℕ) → List ℕ → Type 0
 IsPadded size bytes = (content : List ℕ) × (length content ≡ size) × (bytes ≡ padded content)
 
--- the next part is of this kind, and it may have so many levels and bytes: they are there, and within the limits, where
+-- the next part is of this kind, and it may have so many levels and bytes. They are there, and within the limits, where
 -- so many nodes stand around the one at work, and the root is none of them
 pub record IsEntire (kinds : List KindView) (ps : List Part) (limits : Bounds) (outside read there : ℕ) (e : Entire)
     : Type 0 where

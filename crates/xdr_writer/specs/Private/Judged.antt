@@ -62,8 +62,8 @@ pub record IsJudgedWithin (c d : Checker) (space : ℕ) (b u : List ℕ) (r : Re
   pub represents : OnOk r (checks.RepresentsBytes d (b ++ u))
   pub says : SaysWithin (checks.kinds_of c) (checks.kind_of c).place (checks.limits_of c) space b u r
 
--- what a call that writes an item leaves: the settings; no fault where it answers none; then some bytes more, for
--- which there is space; and that a unit is needed where it answers that more is to come
+-- what a call that writes an item leaves: the settings; no fault where it answers none. Then there are some bytes more,
+-- for which there is space; and a unit is needed where it answers that more is to come
 pub record Kept (c d : Checker) (space : ℕ) (before after : List ℕ) (r : Result Step Why) : Type 0 where
   pub same : checks.IsSame c d
   pub sound : IsSound c → OnOk r (IsSound d)
