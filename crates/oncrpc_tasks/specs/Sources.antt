@@ -49,7 +49,7 @@ pub record Declares (reported : List ℕ → Option (List ℕ)) (types : Texts) 
   pub declared : IsDeclared types.dialect texts d
   pub only : (e : Declared) → IsDeclared types.dialect texts e → e ≡ d
 
--- Texts that are reported declare nothing.
+-- Texts that are reported have no meaning.
 pub record DeclaresNothing (reported : List ℕ → Option (List ℕ)) (types : Texts) : Type 0 where
   pub texts : List (List ℕ)
   pub are_reported : AreReported reported types.files.items texts

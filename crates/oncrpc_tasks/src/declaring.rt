@@ -25,7 +25,7 @@ pub fn declared<P: Opener>(
 ) -> Result<Declared, Unusable>
     // What is answered is what the texts that are reported declare,
     ensures declares { IfOk result (λ d. Declares (P.reported opener.old) types.now (declared_of d)) }
-    // a refusal says that they declare nothing,
+    // a refusal says that they have no meaning,
     ensures refused { IfErr result (λ why. HasNone (P.reported opener.old) types.now why) }
     // and the failure Read that one could not be read.
     ensures failed { IsErrOf result (Unusable.Failed Failure.Read)

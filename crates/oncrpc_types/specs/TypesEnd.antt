@@ -58,8 +58,8 @@ pub record SaysFault {F : Type 0} (what : TypesTask) (stream : Stream F) (faults
   pub fault : LangFault
   pub said : IsSaid stream faults faults' (declaration_line what.types.files.items file fault)
 
--- What the status says. 0: the listing was printed, no write failed, and nothing was said of faults. 2: the texts
--- have an error, which was said, and nothing was printed. 3: a text was not read, or a write failed. 4: memory was
+-- What the status says. 0: the listing was printed, no write failed, and nothing was said of faults. 2: the texts have
+-- no meaning, which was said, and nothing was printed. 3: a text was not read, or a write failed. 4: memory was
 -- refused, and nothing was printed. It is never 1. `file` says that a text was not read.
 pub record TypesEnd {O F : Type 0} (reported : List ℕ → Option (List ℕ)) (what : TypesTask) (file : Type 0)
     (taken : O → Option (List ℕ)) (lost : O → Option ℕ) (stream : Stream F) (output output' : O) (faults faults' : F)

@@ -50,7 +50,7 @@ fn listing_of<P: Opener>(
 ) -> Result<Vec<u8>, Unusable>
     // It is their listing,
     ensures lists { IfOk result (λ text. ListsTexts (P.reported opener.old) what.now text.items) }
-    // a refusal says that they declare nothing,
+    // a refusal says that they have no meaning,
     ensures refused { IfErr result (λ why. HasNone (P.reported opener.old) what.now.types why) }
     // and the failure Read that one could not be read.
     ensures failed { IsErrOf result (Unusable.Failed Failure.Read)

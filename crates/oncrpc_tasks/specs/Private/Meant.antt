@@ -26,7 +26,7 @@ MeansNone dialect text (unusable.Declaration file fault) = (d : Declared) → Me
 MeansNone dialect text (unusable.Failed f) = f ≡ failure.NoMemory
 MeansNone dialect text _ = ⊥
 
--- the texts declare nothing, or memory was refused
+-- the texts have no meaning, or memory was refused
 abbrev pub DeclareNone : Dialect → List (List ℕ) → Unusable → Type 0
 DeclareNone dialect texts (unusable.Declaration file fault) = (d : Declared) → IsDeclared dialect texts d → ⊥
 DeclareNone dialect texts (unusable.Failed f) = f ≡ failure.NoMemory
