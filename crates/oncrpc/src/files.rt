@@ -9,8 +9,7 @@ use xdr_io::{FromRead, ReadFault};
 const MOST_NAME: usize = 255;
 
 /// Opens files by their paths, and a text that is installed with the program by its name, which is one without a dot or
-/// a slash. Its contract says nothing of
-/// them.
+/// a slash. Its contract says nothing of them.
 #[derive(Drop)]
 pub struct FileOpener<'a, R> {
     rt: &'a R,
