@@ -192,6 +192,8 @@ UNASKED = [
     (["ASKED.1.PAIRS"], b'[{"first":1,"second":""},]', 2, b"refused NotJson at 1:26\n"),
     (["ASKED.1.PAIRS"], b"[1,2", 2, b"the arguments are no array of 2 items\n"),
     (["ASKED.FIRST.NIL", "--bytes", "6"], b"", 2, b"limits refused\n"),
+    (["ASKED.FIRST.9", "--bytes", "6"], b"[", 2, b"limits refused\n"),
+    (["ASKED.FIRST.9"], b"[", 2, b"no such procedure\n"),
     (["ASKED.FIRST.NIL", "--types", "no.x"], b"", 3, b"read fault\n"),
     (["ASKED.FIRST.NIL", "--uid", "1", "--gid", "1", "--gids", "1,x"], b"", 2, b"error: --gids wants"),
     (["ASKED.FIRST.NIL", "--uid", "1"], b"", 2, b"error: "),

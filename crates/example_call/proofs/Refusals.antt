@@ -1,6 +1,6 @@
 -- What the refusal of arguments tells.
-use Rattle.std.proofs.Common.{◌≡◌, ◌⊎◌, ℕ, ◌+◌, ◌≤◌, List, [], ◌∷◌, ◌++◌, length, Result, Ok, Err, IfErr, MatchResult}
-use Rattle.std.proofs.Common.{OnOk, inl, inr, refl, ap, sym, ◌∙◌, arith, length-append}
+use Rattle.std.proofs.Common.{◌≡◌, ℕ, ◌+◌, ◌≤◌, List, [], ◌∷◌, ◌++◌, length, Result, Ok, Err, IfErr, MatchResult}
+use Rattle.std.proofs.Common.{OnOk, refl, ap, sym, ◌∙◌, arith, length-append}
 use Rattle.xdr_types.specs.Kinds.{KindView}
 use Rattle.xdr_types.specs.Within.{Bounds}
 use Rattle.oncrpc_call.specs.Asking.{AreArguments, AreRefused}
@@ -10,21 +10,21 @@ use Rattle.example_call.specs.Refused.{IsFirst}
 
 module _ (kinds : List KindView) (limits : Bounds) (bytes : List ℕ) where
   none_refused : length bytes ≡ 4 → (why : Unasked) → AreRefused kinds [] limits bytes why
-      → (why ≡ unasked.Follows 4) ⊎ (why ≡ unasked.NoMemory)
+      → why ≡ unasked.Follows 4
   none_refused four (unasked.Follows count) h =
       let joined : bytes ≡ h.0.rest = h.0.behind.joined ∙ ap (λ (x : List ℕ). x ++ h.0.rest) h.0.behind.judged in
       let same : count ≡ 4 = h.0.many ∙ ap length (sym joined) ∙ four in
-      inl (ap (λ (n : ℕ). unasked.Follows n) same)
-  none_refused four (unasked.Argument at f) h = let within = h.0.within in absurd (omega (arith, within))
-  none_refused four unasked.Kind h = absurd (h tt)
-  none_refused four unasked.NoMemory h = inr refl
+      ap (λ (n : ℕ). unasked.Follows n) same
+  none_refused four (unasked.Argument at f) h = let within = h.0.reached.within in absurd (omega (arith, within))
+  none_refused four unasked.Kind h = let within = h.reached.within in absurd (omega (arith, within))
+  none_refused four unasked.NoMemory h = let within = h.reached.within in absurd (omega (arith, within))
   none_refused four unasked.TooLong h = absurd h
   none_refused four (unasked.Name why) h = absurd h
 
   -- four bytes where there are no arguments
   pub follows_four : {X : Type 0} (r : Result X Unasked) → length bytes ≡ 4
       → OnOk r (AreArguments kinds [] limits bytes) → IfErr r (λ why. AreRefused kinds [] limits bytes why)
-      → MatchResult r (λ _. ⊥) (λ why. (why ≡ unasked.Follows 4) ⊎ (why ≡ unasked.NoMemory))
+      → MatchResult r (λ _. ⊥) (λ why. why ≡ unasked.Follows 4)
   follows_four (Ok x) four judged refused =
       let none : length bytes ≡ 0 = ap length judged in absurd (omega (arith, four, none))
   follows_four (Err why) four judged refused = none_refused four why refused
@@ -33,10 +33,10 @@ module _ (kinds : List KindView) (limits : Bounds) (bytes : List ℕ) where
   pub first_refused : (k : ℕ) (why : Unasked) → AreRefused kinds (k ∷ []) limits bytes why
       → IsFirst (length bytes) why
   first_refused k (unasked.Argument at f) h =
-      let within = h.0.within in
+      let within = h.0.reached.within in
       let place = h.0.place in
-      let whole : length bytes ≡ length h.0.behind.before + length h.0.rest =
-      ap length h.0.behind.joined ∙ length-append h.0.behind.before h.0.rest in
+      let whole : length bytes ≡ length h.0.reached.behind.before + length h.0.rest =
+      ap length h.0.reached.behind.joined ∙ length-append h.0.reached.behind.before h.0.rest in
       (omega (arith, within), omega (arith, place, whole))
   first_refused k (unasked.Follows count) h = tt
   first_refused k unasked.Kind h = tt

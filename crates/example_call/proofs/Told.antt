@@ -12,12 +12,12 @@ use Rattle.rpc_engine.specs.Exchanged.{Outcome, Replied, OtherXid, NoReply, TooL
 use Rattle.rpc_engine.specs.Laws.{OneOutcome}
 use Rattle.oncrpc_answers.specs.declared.failure.Failure.{Failure}
 use Rattle.oncrpc_answers.specs.declared.failure.Failure.TheVariants as failure
+use Rattle.oncrpc_answers.specs.Lines.{failure_line}
 use Rattle.oncrpc_answers.specs.Status.{failure_status}
 use Rattle.oncrpc_service.specs.Infos.{reply_fault_name}
 use Rattle.oncrpc_tasks.specs.Checked.{IsSaid}
 use Rattle.oncrpc_tasks.specs.Devices.{Stream}
 use Rattle.oncrpc_call.specs.Asked.{Wanted}
-use Rattle.oncrpc_call.specs.Lines.{failure_line}
 use Rattle.oncrpc_call.specs.Replies.{Refuses, RefusesReply, Shows, ShowsReply}
 
 -- what is printed of the case

@@ -1,5 +1,5 @@
 //! Arguments that are refused.
-ghost use Rattle.std.specs.Prelude.{◌≡◌, ◌⊎◌, [], ◌∷◌, MatchResult, IfErr, length};
+ghost use Rattle.std.specs.Prelude.{◌≡◌, [], ◌∷◌, MatchResult, IfErr, length};
 ghost use Rattle.oncrpc_call.specs.declared.unasked.Unasked.TheVariants as unasked;
 ghost use Rattle.example_call.specs.Refused.{IsFirst};
 
@@ -7,7 +7,7 @@ use oncrpc_call::{Unasked, judge_arguments};
 use std::alloc::Global;
 use xdr_types::{KindId, Limits, Schema};
 
-/// Where there are no arguments, four bytes are four too many.
+/// Where there are no arguments, four bytes are four too many, and no memory is taken to tell it.
 pub fn counts_what_follows(
     alloc: Global,
     schema: &Schema,
@@ -15,7 +15,7 @@ pub fn counts_what_follows(
     bytes: &[u8],
 ) -> Result<(), Unasked>
     requires { length bytes.now ≡ 4 }
-    ensures { MatchResult result (λ _. ⊥) (λ why. (why ≡ unasked.Follows 4) ⊎ (why ≡ unasked.NoMemory)) }
+    ensures { MatchResult result (λ _. ⊥) (λ why. why ≡ unasked.Follows 4) }
 {
     judge_arguments(alloc, schema, &[], limits, bytes)
 }

@@ -1,17 +1,20 @@
 //! Worked calls of programs, each proved from the contracts alone.
 //!
 //! - `replies`: what is printed of a reply over a connection, and what is said. `datagrams`: what is sent.
-//! - `failures`: what is said where memory was refused. `arguments`: which are refused, and where.
+//! - `failures`: what is said where memory was refused. `arguments`: which are refused, and where. `asking`: what a
+//!   name and arguments ask for.
 //! - `ports`: how a registry is asked for a port, and which it tells.
 #![tactic(auto)]
 
 mod arguments;
+mod asking;
 mod datagrams;
 mod failures;
 mod ports;
 mod replies;
 
 pub use arguments::{counts_what_follows, refuses_the_only_argument};
+pub use asking::{asks_for_a_square, tells_the_name_first};
 pub use datagrams::{answers_to_no_datagram, sends_the_call};
 pub use failures::says_that_memory_was_refused;
 pub use ports::{

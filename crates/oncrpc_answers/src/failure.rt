@@ -1,5 +1,6 @@
 //! What ends a task before its answer is there.
 ghost use Rattle.std.specs.Prelude.{◌≡◌};
+ghost use Rattle.oncrpc_answers.specs.Lines.{failure_line};
 ghost use Rattle.oncrpc_answers.specs.Status.{failure_status, failure_of_input};
 ghost use Rattle.oncrpc_answers.specs.declared.failure.Failure.TheVariants.{Write, NoMemory};
 
@@ -60,17 +61,35 @@ impl From<AllocError> for Failure {
     }
 }
 
+impl Failure {
+    /// Its line, with its line feed.
+    pub fn line(self) -> &'static str
+        ensures { result.now ≡ failure_line self }
+    {
+        match self {
+            Failure::Read => "read fault\n",
+            Failure::Write => "write fault\n",
+            Failure::TooManyReads => "too many reads\n",
+            Failure::NoMemory => "out of memory\n",
+        }
+    }
+
+    /// Its exit status: 3 for a device and too many reads, 4 for an allocation failure.
+    pub fn status(self) -> u8
+        ensures { result ≡ failure_status self }
+    {
+        match self {
+            Failure::Read | Failure::Write | Failure::TooManyReads => 3,
+            Failure::NoMemory => 4,
+        }
+    }
+}
+
 /// Writes the failure's line to `faults`, where that can be done, and gives the exit status: 3 for a device, 4 for
 /// an allocation failure.
 pub fn report<F: Sink>(failure: Failure, faults: &mut F) -> u8
     ensures { result ≡ failure_status failure }
 {
-    let (line, status) = match failure {
-        Failure::Read => ("read fault\n", 3),
-        Failure::Write => ("write fault\n", 3),
-        Failure::TooManyReads => ("too many reads\n", 3),
-        Failure::NoMemory => ("out of memory\n", 4),
-    };
-    let _ = write_whole(faults, line.as_bytes());
-    status
+    let _ = write_whole(faults, failure.line().as_bytes());
+    failure.status()
 }

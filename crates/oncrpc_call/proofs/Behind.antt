@@ -10,13 +10,11 @@ use Rattle.xdr_types.specs.declared.kind.KindId.{KindId}
 use Rattle.xdr_types.specs.Spelling.{bytes_of}
 use Rattle.xdr_types.specs.Tree.{Tree}
 use Rattle.xdr_types.specs.Within.{Bounds, FitsWithin}
-use Rattle.xdr_stream.specs.Finish.{EndsWith}
-use Rattle.xdr_stream.specs.declared.fault.DecodeFault.{DecodeFault}
 use Rattle.xdr_stream.specs.declared.fault.Reason.{Reason}
 use Rattle.xdr_stream.specs.declared.fault.Reason.TheVariants as reason
 use Rattle.xdr_codec.specs.Refused.{HasNoneWithin, IsRefused, MayFollow}
 use Rattle.xdr_lang.specs.Views.{places}
-use Rattle.oncrpc_call.specs.Asking.{AreArguments, FollowsLast, Leaves, RefusesArgument}
+use Rattle.oncrpc_call.specs.Asking.{AreArguments, FollowsLast, Leaves, Reaches}
 
 -- the place of an argument
 abbrev pub place_at : List KindId → (at : ℕ) → ℕ
@@ -126,23 +124,15 @@ leaves_more kinds places at k used limits bytes rest next v l some is fits spell
           ∙ sym (append_assoc l.before own next);
     }
 
--- No value of the kind of an argument begins what is left.
-pub refuses_at : (kinds : List KindView) (ids : List KindId) (at : ℕ) (limits : Bounds) (bytes rest : List ℕ)
-    (f : DecodeFault) → Leaves kinds (places ids) limits bytes at rest → at < length ids → f.why ≢ reason.NoMemory
-    → EndsWith kinds (place_at ids at) limits rest f
-    → IsRefused (HasNoneWithin kinds (place_at ids at) limits) f.why rest → f.at ≤ length rest
-    → RefusesArgument kinds (places ids) limits bytes at f
-refuses_at kinds ids at limits bytes rest f l some known ends none place =
-    let is = place_is ids at some in
-    record {
-      rest = rest;
-      behind = l;
-      within = omega (arith, some, length-map ids (λ (k : KindId). k.place));
-      known = known;
-      ends = subst (λ (k : ℕ). EndsWith kinds k limits rest f) (sym is) ends;
-      none = subst (λ (k : ℕ). IsRefused (HasNoneWithin kinds k limits) f.why rest) (sym is) none;
-      place = place;
-    }
+-- An argument is left, of this kind.
+pub reaches_at : (kinds : List KindView) (ids : List KindId) (at : ℕ) (limits : Bounds) (bytes rest : List ℕ)
+    → Leaves kinds (places ids) limits bytes at rest → at < length ids
+    → Reaches kinds (places ids) limits bytes at (place_at ids at) rest
+reaches_at kinds ids at limits bytes rest l some = record {
+  behind = l;
+  within = omega (arith, some, length-map ids (λ (k : KindId). k.place));
+  place_is = sym (place_is ids at some);
+}
 
 -- Bytes are left behind the last argument.
 pub follows_last : (kinds : List KindView) (ids : List KindId) (limits : Bounds) (bytes rest : List ℕ)

@@ -7,6 +7,7 @@ use Rattle.rpc_engine.specs.declared.fault.ClientFault.{ClientFault}
 use Rattle.rpc_engine.specs.declared.fault.ClientFault.TheVariants as fault
 use Rattle.oncrpc_answers.specs.declared.failure.Failure.{Failure}
 use Rattle.oncrpc_answers.specs.declared.failure.Failure.TheVariants as failure
+use Rattle.oncrpc_answers.specs.Lines.{failure_line}
 use Rattle.oncrpc_answers.specs.Status.{failure_status}
 use Rattle.oncrpc_service.specs.Infos.{failure_of}
 use Rattle.oncrpc_service.proofs.Ending.{not_done, three_or_four}
@@ -14,7 +15,6 @@ use Rattle.oncrpc_tasks.specs.Checked.{IsSaid}
 use Rattle.oncrpc_tasks.specs.Devices.{Stream}
 use Rattle.oncrpc_call.specs.Asked.{Wanted}
 use Rattle.oncrpc_call.specs.CallEnds.{AnswerEnds, DeviceFails, FailureSaid, Prints}
-use Rattle.oncrpc_call.specs.Lines.{failure_line}
 use Rattle.oncrpc_call.specs.Replies.{Refuses, Shows}
 
 -- an answer of which something is shown or said is no failure

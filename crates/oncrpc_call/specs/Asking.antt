@@ -1,13 +1,13 @@
 -- The call that a name and arguments ask for (RFC 5531 sections 9 and 12.3).
 use Rattle.std.specs.Prelude.{◌≡◌, ◌≢◌, ◌⊎◌, ℕ, ◌<◌, ◌≤◌, List, [], ◌∷◌, ◌++◌, length, take, slice_index, Option}
-use Rattle.std.specs.Prelude.{None, Some, ⊤}
-use Rattle.std.specs.List.{AllByRecursion}
-use Rattle.xdr_types.specs.Kinds.{KindView}
+use Rattle.std.specs.Prelude.{None, Some, MatchOption}
+use Rattle.xdr_types.specs.Kinds.{KindView, kind_at}
 use Rattle.xdr_types.specs.Named.{basic}
 use Rattle.xdr_types.specs.Spelling.{bytes_of}
 use Rattle.xdr_types.specs.Tree.{Tree}
 use Rattle.xdr_types.specs.Within.{Bounds, FitsWithin}
 use Rattle.xdr_stream.specs.Finish.{EndsWith}
+use Rattle.xdr_stream.specs.Spared.{IsFlat}
 use Rattle.xdr_stream.specs.declared.fault.DecodeFault.{DecodeFault}
 use Rattle.xdr_stream.specs.declared.fault.Reason.TheVariants as reason
 use Rattle.xdr_codec.specs.Refused.{HasNoneWithin, IsRefused}
@@ -34,10 +34,6 @@ AreArguments kinds (k ∷ ks) limits bytes =
     (v : Tree) × (rest : List ℕ) × FitsWithin kinds k limits v × (bytes ≡ bytes_of kinds k v ++ rest)
     × AreArguments kinds ks limits rest
 
--- each place is that of a kind
-abbrev pub AreKinds : List KindView → (places : List ℕ) → Type 0
-AreKinds kinds places = AllByRecursion (λ k. k < length kinds) places
-
 -- The bytes begin with arguments of the first so many kinds, and these are left behind them.
 pub record Leaves (kinds : List KindView) (places : List ℕ) (limits : Bounds) (bytes : List ℕ) (at : ℕ)
     (rest : List ℕ) : Type 0 where
@@ -45,16 +41,24 @@ pub record Leaves (kinds : List KindView) (places : List ℕ) (limits : Bounds) 
   pub judged : AreArguments kinds (take at places) limits before
   pub joined : bytes ≡ before ++ rest
 
--- The argument with this number, from 0, is refused: no value of its kind within the limits begins what the arguments
--- before it leave, for the reason and at the place of the outcome there.
-pub record RefusesArgument (kinds : List KindView) (places : List ℕ) (limits : Bounds) (bytes : List ℕ) (at : ℕ)
-    (f : DecodeFault) : Type 0 where
-  pub rest : List ℕ
+-- The argument with this number, from 0, is of this kind, and these bytes are left for it by the arguments before it.
+pub record Reaches (kinds : List KindView) (places : List ℕ) (limits : Bounds) (bytes : List ℕ) (at kind : ℕ)
+    (rest : List ℕ) : Type 0 where
   pub behind : Leaves kinds places limits bytes at rest
   pub within : at < length places
+  pub place_is : kind ≡ slice_index places at
+
+-- The argument with this number, from 0, is refused: it is the first that is none. Its kind is known, and no value of
+-- it within the limits begins what is left for it, for the reason and at the place of the outcome there.
+pub record RefusesArgument (kinds : List KindView) (places : List ℕ) (limits : Bounds) (bytes : List ℕ) (at : ℕ)
+    (f : DecodeFault) : Type 0 where
+  pub kind : ℕ
+  pub rest : List ℕ
+  pub reached : Reaches kinds places limits bytes at kind rest
+  pub is_kind : kind < length kinds
   pub known : f.why ≢ reason.NoMemory
-  pub ends : EndsWith kinds (slice_index places at) limits rest f
-  pub none : IsRefused (HasNoneWithin kinds (slice_index places at) limits) f.why rest
+  pub ends : EndsWith kinds kind limits rest f
+  pub none : IsRefused (HasNoneWithin kinds kind limits) f.why rest
   pub place : f.at ≤ length rest
 
 -- So many bytes follow the last argument, at least one.
@@ -65,14 +69,31 @@ pub record FollowsLast (kinds : List KindView) (places : List ℕ) (limits : Bou
   pub many : count ≡ length rest
   pub some : 0 < count
 
--- why bytes are no arguments; where memory was refused, or a place is that of no kind, that is not known
+-- An argument is to be of a kind that there is not; those before it are arguments.
+pub record LacksKind (kinds : List KindView) (places : List ℕ) (limits : Bounds) (bytes : List ℕ) : Type 0 where
+  pub at : ℕ
+  pub kind : ℕ
+  pub rest : List ℕ
+  pub reached : Reaches kinds places limits bytes at kind rest
+  pub unknown : length kinds ≤ kind
+
+-- Memory was refused while an argument was judged, whose kind takes some; those before it are arguments.
+pub record LacksMemory (kinds : List KindView) (places : List ℕ) (limits : Bounds) (bytes : List ℕ) : Type 0 where
+  pub at : ℕ
+  pub kind : ℕ
+  pub rest : List ℕ
+  pub reached : Reaches kinds places limits bytes at kind rest
+  pub is_kind : kind < length kinds
+  pub takes : IsFlat (kind_at kinds kind) → ⊥
+
+-- why bytes are no arguments: of what is wrong with them the first; where memory was refused that is not known
 abbrev pub AreRefused : List KindView → (places : List ℕ) → Bounds → (bytes : List ℕ) → Unasked → Type 0
 AreRefused kinds places limits bytes (unasked.Argument at f) =
     RefusesArgument kinds places limits bytes at f × (AreArguments kinds places limits bytes → ⊥)
 AreRefused kinds places limits bytes (unasked.Follows count) =
     FollowsLast kinds places limits bytes count × (AreArguments kinds places limits bytes → ⊥)
-AreRefused kinds places limits bytes unasked.Kind = AreKinds kinds places → ⊥
-AreRefused kinds places limits bytes unasked.NoMemory = ⊤
+AreRefused kinds places limits bytes unasked.Kind = LacksKind kinds places limits bytes
+AreRefused kinds places limits bytes unasked.NoMemory = LacksMemory kinds places limits bytes
 AreRefused kinds places limits bytes _ = ⊥
 
 -- ---- the call
@@ -136,23 +157,28 @@ pub record AsksNull (program version : ℕ) (asked : Asked) : Type 0 where
   pub call_is : call_view asked.call ≡ null_call program version
   pub kinds_are : asked.schema.kinds ≡ basic.kinds
   pub place_is : asked.result.place ≡ 5
+  pub limits_are : asked.limits ≡ record { depth = 4096; bytes = 16777216 }
   pub form_is : asked.form ≡ form.Hex
 
--- the kind of the result, where there is one, is one of these
-abbrev pub IsResultKnown : List KindView → Option ℕ → Type 0
-IsResultKnown kinds None = ⊤
-IsResultKnown kinds (Some k) = k < length kinds
+-- why there is no kind of a result: it is none of these, or memory was refused for that of void
+abbrev pub LacksResult : List KindView → (declared : Option ℕ) → Unasked → Type 0
+LacksResult kinds declared unasked.Kind = MatchOption declared ⊥ (λ k. length kinds ≤ k)
+LacksResult kinds declared unasked.NoMemory = declared ≡ None
+LacksResult kinds declared _ = ⊥
 
--- Of the procedure that is named, these are no arguments, or a kind is not there.
+-- A procedure is named, and the bytes are not too long. They are no arguments of it; or they are, and its result has no
+-- kind.
 pub record Mismatches (name : List ℕ) (d : Declared) (args : List ℕ) (limits : Bounds) (why : Unasked) : Type 0 where
   pub target : Target
   pub named : Names name d.programs target
+  pub short : length args ≤ most_arguments
   pub refused : AreRefused d.schema.kinds target.procedure.arguments limits args why
-      ⊎ ((why ≡ unasked.Kind) × (IsResultKnown d.schema.kinds target.procedure.result → ⊥))
+      ⊎ (AreArguments d.schema.kinds target.procedure.arguments limits args
+      × LacksResult d.schema.kinds target.procedure.result why)
 
--- why nothing is asked
+-- why nothing is asked, of several reasons the first: bytes that are too long, a name that names nothing, what is wrong
+-- with the arguments, and with the result
 abbrev pub AsksNothing : (name : List ℕ) → Declared → (args : List ℕ) → Bounds → Unasked → Type 0
-AsksNothing name d args limits (unasked.Name why) = NamesNone name d.programs why
 AsksNothing name d args limits unasked.TooLong = most_arguments < length args
-AsksNothing name d args limits unasked.NoMemory = ⊤
+AsksNothing name d args limits (unasked.Name why) = (length args ≤ most_arguments) × NamesNone name d.programs why
 AsksNothing name d args limits why = Mismatches name d args limits why

@@ -11,6 +11,7 @@ use Rattle.rpc_engine.specs.declared.fault.ClientFault.TheVariants as fault
 use Rattle.rpc_engine.specs.Exchanged.{Exchanged, IsExact, Wrote, read_failures, write_failures}
 use Rattle.oncrpc_answers.specs.declared.failure.Failure.{Failure}
 use Rattle.oncrpc_answers.specs.declared.failure.Failure.TheVariants as failure
+use Rattle.oncrpc_answers.specs.Lines.{failure_line}
 use Rattle.oncrpc_answers.specs.Status.{failure_status}
 use Rattle.oncrpc_service.specs.DatagramEnds.{Desk}
 use Rattle.oncrpc_service.specs.InfoEnds.{Line}
@@ -21,7 +22,6 @@ use Rattle.oncrpc_tasks.specs.Devices.{Stream}
 use Rattle.oncrpc_call.specs.declared.asked.Asked.{Asked}
 use Rattle.oncrpc_call.specs.Asked.{Wanted, wanted_of}
 use Rattle.oncrpc_call.specs.Datagrams.{AsksByDatagrams}
-use Rattle.oncrpc_call.specs.Lines.{failure_line}
 use Rattle.oncrpc_call.specs.Replies.{Refuses, Shows}
 
 -- The result of an answer was printed, and nothing else.

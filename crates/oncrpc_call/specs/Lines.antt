@@ -3,8 +3,6 @@ use Rattle.std.specs.Prelude.{ℕ, List, [], ◌∷◌, ◌++◌, Option, None, 
 use Rattle.xdr_stream.specs.declared.fault.DecodeFault.{DecodeFault}
 use Rattle.rpc_message.specs.Message.{WhyView, RpcMismatch, AuthError}
 use Rattle.oncrpc_answers.specs.declared.answer.Answer.TheVariants as answer
-use Rattle.oncrpc_answers.specs.declared.failure.Failure.{Failure}
-use Rattle.oncrpc_answers.specs.declared.failure.Failure.TheVariants as failure
 use Rattle.oncrpc_answers.specs.Lines.{line}
 
 -- the names of auth_stat, in the order of their numbers from 0 (RFC 5531 section 9)
@@ -36,10 +34,3 @@ refused_line f = codes "result " ++ line (answer.Refused f)
 -- the line of results that go on behind a value, which ends at this place
 abbrev pub follows_line : (at : ℕ) → List ℕ
 follows_line at = codes "result ends at " ++ decimal at ++ codes ", more follows\n"
-
--- the line of a device that failed, of too many reads, and of an allocation failure
-abbrev pub failure_line : Failure → List ℕ
-failure_line failure.Read = codes "read fault\n"
-failure_line failure.Write = codes "write fault\n"
-failure_line failure.TooManyReads = codes "too many reads\n"
-failure_line failure.NoMemory = codes "out of memory\n"

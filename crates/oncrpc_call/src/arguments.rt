@@ -9,7 +9,9 @@ use xdr_codec::{Reason, decode};
 use xdr_types::{KindId, Limits, Schema};
 
 /// Judges bytes as arguments of these kinds: a value of each within the limits, one behind another, and nothing after
-/// (RFC 4506 section 4, RFC 5531 section 12.2).
+/// (RFC 4506 section 4, RFC 5531 section 12.2). The first argument that is none is told, as `Argument` or `Kind`, and
+/// `Follows` only where all are values. Memory is taken for an argument alone that is none of a number, a boolean, an
+/// enumeration and void: where each is one of these, `NoMemory` does not come.
 pub fn judge_arguments(
     alloc: Global,
     schema: &Schema,
@@ -19,7 +21,7 @@ pub fn judge_arguments(
 ) -> Result<(), Unasked>
     // They are arguments,
     ensures judged { OnOk result (AreArguments schema.now.kinds (places kinds.now) limits bytes.now) }
-    // or a refusal says that they are none, or why that is not known.
+    // or a refusal says what is wrong with them, or at which argument memory was refused.
     ensures refused { IfErr result (λ why.
         AreRefused schema.now.kinds (places kinds.now) limits bytes.now why) }
 {

@@ -1,10 +1,10 @@
 //! The call that a name and arguments ask for.
-ghost use Rattle.std.specs.Prelude.{◌≡◌, ◌⊎◌, ◌≤◌, ◌<◌, IfErr, IfOk, length, option_map};
+ghost use Rattle.std.specs.Prelude.{◌≡◌, ◌≤◌, ◌<◌, IfErr, IfOk, length, option_map};
 ghost use Rattle.rpc_message.specs.View.{auth_view, call_view};
 ghost use Rattle.xdr_lang.specs.Views.{declared_of};
 ghost use Rattle.oncrpc_procedures.specs.View.{target_of};
 ghost use Rattle.oncrpc_call.specs.Asked.{CanBeMade};
-ghost use Rattle.oncrpc_call.specs.Asking.{AsksFor, AsksNothing, IsResultKind, IsResultKnown, call_for, terms_of};
+ghost use Rattle.oncrpc_call.specs.Asking.{AsksFor, AsksNothing, IsResultKind, LacksResult, call_for, terms_of};
 
 use crate::arguments::judge_arguments;
 use crate::asked::{Asked, Form};
@@ -37,6 +37,10 @@ pub struct Terms {
 /// The call that a name and arguments ask for in what is declared, and the kind of its result. The arguments are judged
 /// here: a value of each kind that the procedure has, one behind another, at most 16777216 bytes in all. The credential
 /// has at most 400 bytes.
+///
+/// Of several reasons why nothing is asked the first of these is told: `TooLong`; `Name`; the first argument that is
+/// refused, as `Argument` or `Kind`; `Follows`; `Kind` of the result. Memory is taken for arguments, as
+/// `judge_arguments` takes it, and for a result of void: so `NoMemory` never comes in the place of `TooLong` or `Name`.
 pub fn ask(
     alloc: Global,
     declared: Declared,
@@ -49,7 +53,7 @@ pub fn ask(
     ensures asked { IfOk result (λ a. AsksFor name.now (declared_of declared) arguments.items (terms_of terms) a) }
     // and it can be made.
     ensures ready { IfOk result (λ a. CanBeMade a) }
-    // A refusal says why nothing is asked.
+    // A refusal says why nothing is asked, of several reasons the first.
     ensures refused { IfErr result (λ why.
         AsksNothing name.now (declared_of declared) arguments.items terms.limits why) }
 {
@@ -103,8 +107,7 @@ fn result_kind(
     ensures found { IfOk result (λ r.
         IsResultKind schema.kinds (option_map (λ k. k.place) declared) r.0.kinds r.1.place) }
     ensures known { IfOk result (λ r. r.1.place < length r.0.kinds) }
-    ensures refused { IfErr result (λ why. (why ≡ Unasked.NoMemory) ⊎ ((why ≡ Unasked.Kind)
-        × (IsResultKnown schema.kinds (option_map (λ k. k.place) declared) → ⊥))) }
+    ensures refused { IfErr result (λ why. LacksResult schema.kinds (option_map (λ k. k.place) declared) why) }
 {
     match declared {
         Some(kind) if schema.has(kind) => Ok((schema, kind)),

@@ -1,7 +1,7 @@
 //! What is said where a device failed or memory was refused.
 ghost use Rattle.std.specs.Prelude.{◌≡◌};
+ghost use Rattle.oncrpc_answers.specs.Lines.{failure_line};
 ghost use Rattle.oncrpc_answers.specs.Status.{failure_status};
-ghost use Rattle.oncrpc_call.specs.Lines.{failure_line};
 ghost use Rattle.oncrpc_tasks.specs.Checked.{IsSaid};
 
 use oncrpc_answers::Failure;
@@ -15,26 +15,6 @@ pub fn say_failure<F: Sink>(failure: Failure, faults: &mut F) -> u8
     ensures said { IsSaid (record { taken = F.taken; lost = F.failures }) faults.old faults.new
         (failure_line failure) }
 {
-    say_line(failure_line(failure), faults);
-    failure_status(failure)
-}
-
-fn failure_line(failure: Failure) -> &'static str
-    ensures { result.now ≡ failure_line failure }
-{
-    match failure {
-        Failure::Read => "read fault\n",
-        Failure::Write => "write fault\n",
-        Failure::TooManyReads => "too many reads\n",
-        Failure::NoMemory => "out of memory\n",
-    }
-}
-
-fn failure_status(failure: Failure) -> u8
-    ensures { result ≡ failure_status failure }
-{
-    match failure {
-        Failure::Read | Failure::Write | Failure::TooManyReads => 3,
-        Failure::NoMemory => 4,
-    }
+    say_line(failure.line(), faults);
+    failure.status()
 }

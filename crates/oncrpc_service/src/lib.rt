@@ -3,7 +3,7 @@
 //!
 //! - `info`, `rows`, `refusal`: a registry is asked, its rows are printed, or why there are none. `printing`: a line.
 //! - `serving`, `datagrams`: connections served, and datagrams answered, a line for each. `listener`: where connections
-//!   come from. `loopback`, `udp`: those of this host over TCP, and ports of datagrams over UDP.
+//!   come from. `loopback`, `udp`: those of this host over TCP, and its ports of datagrams over UDP.
 #![tactic(auto)]
 
 mod datagrams;
@@ -22,4 +22,4 @@ pub use listener::{AcceptFault, Listener};
 pub use loopback::Loopback;
 pub use refusal::{fault_line, status_line};
 pub use serving::{report_socket, serve_on};
-pub use udp::{ClientPort, LoopbackPort};
+pub use udp::LoopbackPort;

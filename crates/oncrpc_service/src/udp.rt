@@ -1,7 +1,7 @@
 //! Datagrams over UDP.
 use rpc_engine::{DatagramPort, PortFault};
 use std::io;
-use std::net::{Ipv4Addr, Ipv6Addr, Net, SocketAddr, UdpSocket};
+use std::net::{Ipv4Addr, Net, SocketAddr, UdpSocket};
 
 /// A port of 127.0.0.1 over UDP, for a server: what it sends goes to the sender of the last datagram that it received.
 /// Its contract says nothing of them.
@@ -38,37 +38,6 @@ impl DatagramPort for LoopbackPort {
             Some(sender) => sent(self.socket.send_to(datagram, sender)),
             None => Err(PortFault),
         }
-    }
-}
-
-/// A port over UDP, for a client: it sends to its peer, and receives from it alone. Its contract says nothing of them.
-#[derive(Drop)]
-pub struct ClientPort {
-    socket: UdpSocket,
-}
-
-impl ClientPort {
-    /// Takes a free port, whose peer is at this address.
-    pub fn connect<R: Net>(rt: &R, peer: SocketAddr) -> io::Result<ClientPort> {
-        let socket = match peer {
-            SocketAddr::V4(_) => UdpSocket::bind(rt, (Ipv4Addr::UNSPECIFIED, 0))?,
-            SocketAddr::V6(_) => UdpSocket::bind(rt, (Ipv6Addr::UNSPECIFIED, 0))?,
-        };
-        socket.connect(peer)?;
-        Ok(ClientPort { socket })
-    }
-}
-
-impl DatagramPort for ClientPort {
-    fn receive(&mut self, array: &mut [u8; 65536]) -> Result<u32, PortFault> {
-        match self.socket.recv(array) {
-            Ok(n) => Ok(n as u32),
-            Err(_) => Err(PortFault),
-        }
-    }
-
-    fn send(&mut self, datagram: &[u8]) -> Result<(), PortFault> {
-        sent(self.socket.send(datagram))
     }
 }
 

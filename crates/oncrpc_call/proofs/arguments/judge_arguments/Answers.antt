@@ -5,8 +5,8 @@ use Rattle.xdr_types.specs.declared.kind.KindId.{KindId}
 use Rattle.xdr_types.specs.View.{tree}
 use Rattle.xdr_stream.specs.declared.fault.Reason.TheVariants as reason
 use Rattle.xdr_lang.specs.Views.{places}
-use Rattle.oncrpc_call.specs.Asking.{AreArguments, AreKinds}
-use Rattle.oncrpc_call.proofs.Behind.{behind_first, leaves_more, none_first, one_left, place_at, place_is, refuses_at}
+use Rattle.oncrpc_call.specs.Asking.{AreArguments}
+use Rattle.oncrpc_call.proofs.Behind.{behind_first, leaves_more, none_first, one_left, place_at, place_is, reaches_at}
 use Rattle.oncrpc_call.proofs.Behind.{with_first}
 use Rattle.oncrpc_call.proofs.arguments.judge_arguments.Goals as goal
 
@@ -18,9 +18,17 @@ returns-in-Err-2-clause-refused c =
     let rest = c.arguments.rest.now in
     let known : c.in-Err-2.fault.why ≢ reason.NoMemory = search rules in
     let fault_known : c.in-Err.fault.why ≢ reason.NoMemory = search rules in (
-      refuses_at K ids at c.args.limits c.args.bytes.now rest c.in-Err.fault c.arguments.invariant.begun
-          c.arguments-test.true fault_known c.in-Err.ensures.fault c.in-Err.ensures.refusal.refused
-          c.in-Err.ensures.refusal.place,
+      record {
+        kind = place_at ids at;
+        rest = rest;
+        reached = reaches_at K ids at c.args.limits c.args.bytes.now rest c.arguments.invariant.begun
+            c.arguments-test.true;
+        is_kind = search rules;
+        known = fault_known;
+        ends = c.in-Err.ensures.fault;
+        none = c.in-Err.ensures.refusal.refused;
+        place = c.in-Err.ensures.refusal.place;
+      },
       λ h. none_first K (place_at ids at) (places (drop (at + 1) ids)) c.args.limits rest c.in-Err-2.fault.why known
           c.in-Err-2.ensures.refusal.refused
           (subst (λ (xs : List ℕ). AreArguments K xs c.args.limits rest) (one_left ids at c.arguments-test.true)
@@ -52,5 +60,4 @@ arguments-preserved c =
       begun = leaves_more K (places ids) at (place_at ids at) used limits c.args.bytes.now rest
           (take (length rest - used) (drop used rest)) (tree c.in-Ok._value) inv.begun inside
           (place_is ids at some) is.0 is.2 tail;
-      known = λ h. (subst (λ (xs : List ℕ). AreKinds K xs) left (inv.known h)).1;
     }

@@ -1,6 +1,6 @@
 use Rattle.std.proofs.Common.{drop}
 use Rattle.xdr_lang.specs.Views.{places}
-use Rattle.oncrpc_call.specs.Asking.{AreArguments, AreKinds, Leaves}
+use Rattle.oncrpc_call.specs.Asking.{AreArguments, Leaves}
 use Rattle.oncrpc_call.proofs.arguments.judge_arguments.Given as goal
 
 abbrev pub invariant-arguments : goal.invariant-arguments
@@ -10,5 +10,4 @@ invariant-arguments l = record {
   back : AreArguments l.schema.kinds (places l.kinds) l.limits l.bytes
       → AreArguments l.schema.kinds (places (drop l.at l.kinds)) l.limits l.rest;
   begun : Leaves l.schema.kinds (places l.kinds) l.limits l.bytes l.at l.rest;
-  known : AreKinds l.schema.kinds (places l.kinds) → AreKinds l.schema.kinds (places (drop l.at l.kinds));
 }

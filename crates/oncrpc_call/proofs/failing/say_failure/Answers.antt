@@ -2,4 +2,4 @@
 use Rattle.oncrpc_call.proofs.failing.say_failure.Goals as goal
 
 pub returns-clause-said : goal.returns-clause-said
-returns-clause-said g c = rw c.failure_line.ensures at c.say_line.ensures
+returns-clause-said g c = rw c.line.ensures at c.say_line.ensures
