@@ -1,8 +1,12 @@
 -- What is right for the items of a text, and for an input.
 use Rattle.std.proofs.Common.{◌≡◌, ◌⊎◌, ℕ, ◌+◌, ◌-◌, ◌<◌, ◌≤◌, List, ◌++◌, length, map, Option, None, Some, Result}
 use Rattle.std.proofs.Common.{Ok, Err}
-use Rattle.std.proofs.Common.{IfOk, ap, sym, ◌∙◌, subst, arith, inl, inr, length-append, length-map, length-take, drop}
+use Rattle.std.proofs.Common.{IfOk, ap, sym, ◌∙◌, subst, arith, inl, inr, length-append, length-take, drop}
 use Rattle.std.specs.List.{slice_range}
+use Rattle.std.specs.declared.alloc.Global.{Global}
+use Rattle.std.specs.Option.{IfNone, IfSome}
+use Rattle.std.proofs.Common.{Vec}
+use Rattle.std.proofs.lemmas.List.{length-map}
 use Rattle.std.specs.Io.KnownBytes.{Consumes, IsAtEnd}
 use Rattle.xdr_types.specs.Tree.{Tree}
 use Rattle.xdr_types.specs.Spelling.{bytes_of}
@@ -24,6 +28,7 @@ use Rattle.oncrpc_encode.specs.declared.encoded.Encoded.TheVariants as encoded
 use Rattle.oncrpc_encode.specs.declared.item.Item.{Item}
 use Rattle.oncrpc_encode.specs.declared.refusal.Refusal.{Refusal}
 use Rattle.oncrpc_encode.specs.declared.refusal.Refusal.TheVariants as refusal
+use Rattle.oncrpc_encode.proofs.Inside.{counted}
 use Rattle.oncrpc_encode.proofs.Reading.{all_read}
 
 -- the bytes of the value that an item spells alone
@@ -105,3 +110,19 @@ too_long_each s (Some text) (Some rest) bytes read long =
 -- an item has no more bytes than its place
 pub item_short : (text : List ℕ) (begin end : ℕ) → length (slice_range text begin end) ≤ end - begin
 item_short text begin end = omega (arith, length-take (end - begin) (drop begin text))
+
+-- a text that is no array of so many items
+pub unlisted : (text : List ℕ) (kinds : List KindId) (o : Option (Vec Item Global)) → o ≡ None
+    → IfNone o ((items : List Item) → AreItems text (length kinds) items → ⊥)
+    → (items : List Item) → AreItems text (length (places_of kinds)) items → ⊥
+unlisted text kinds None is none items are =
+    none items (subst (λ (n : ℕ). AreItems text n items) (length-places kinds) are)
+unlisted text kinds (Some v) is none items are = cc
+
+-- so many items
+pub listed : (text : List ℕ) (kinds : List KindId) (o : Option (Vec Item Global)) (v : Vec Item Global) → o ≡ Some v
+    → IfSome o (λ w. AreItems text (length kinds) w.items) → length v.items ≡ length kinds
+listed text kinds None v is found = cc
+listed text kinds (Some w) v is found =
+    let same : w ≡ v = cc in
+    subst (λ (x : Vec Item Global). length x.items ≡ length kinds) same (counted text (length kinds) w.items found)

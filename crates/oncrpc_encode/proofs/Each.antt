@@ -1,7 +1,8 @@
 -- Items that stand for values, one behind another.
 use Rattle.std.proofs.Common.{◌≡◌, ℕ, ◌+◌, ◌<◌, ◌≤◌, Bool, true, List, [], ◌∷◌, ◌++◌, length, drop, map, refl, ap, sym}
 use Rattle.std.proofs.Common.{◌∙◌, subst, append_assoc, append-nil, suc, zero, arith, length-append, length-drop}
-use Rattle.std.specs.List.{flat_map, list_all}
+use Rattle.std.proofs.Common.{get_or}
+use Rattle.std.specs.List.{AllByRecursion}
 use Rattle.std.proofs.Math.Seq.{drop-length, drop-nil}
 use Rattle.xdr_types.specs.declared.kind.KindId.{KindId}
 use Rattle.xdr_json_reader.specs.declared.fault.JsonReason.{JsonReason}
@@ -9,6 +10,13 @@ use Rattle.oncrpc_encode.specs.Arguments.{AreEncodings, RefusesFirst, RefusesIte
 use Rattle.oncrpc_encode.specs.Arguments.{sought_at}
 use Rattle.oncrpc_encode.specs.Encoding.{IsEncoding}
 use Rattle.oncrpc_encode.specs.declared.item.Item.{Item}
+
+-- what holds of each holds of one
+pub at_all : {X : Type 0} (P : X → Type 0) (xs : List X) (n : ℕ) (d : X) → AllByRecursion P xs → n < length xs
+    → P (get_or xs n d)
+at_all P [] n d all below = absurd (omega (arith, below))
+at_all P (x ∷ xs) zero d all below = all.0
+at_all P (x ∷ xs) (suc n) d all below = at_all P xs n d all.1 (omega (arith, below))
 
 module _ (s : SoughtEach) (text : List ℕ) (kinds : List KindId) (items : List Item) where
   -- what is told of the rest is told of all, behind these bytes

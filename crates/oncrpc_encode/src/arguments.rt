@@ -1,5 +1,5 @@
 //! What an input of JSON stands for that spells several arguments.
-ghost use Rattle.std.specs.Prelude.{◌≡◌, ◌+◌, ◌<◌, ◌≤◌, length, IfOk, IfErr, OnOk, IsErrOf, IsTrue};
+ghost use Rattle.std.specs.Prelude.{◌≡◌, ◌+◌, ◌<◌, ◌≤◌, length, nat_lt, IfOk, IfErr, OnOk, IsErrOf, IsTrue};
 ghost use Rattle.xdr_io.specs.Reported.{Counts, CountsAtMost, MovesAtMost};
 ghost use Rattle.xdr_io.specs.declared.input.TheConstants.{MOST_READS};
 ghost use Rattle.oncrpc_encode.specs.Arguments.{IsRightEach, IsRightEachFor, knows_each, places_of};
@@ -30,16 +30,21 @@ pub enum Arguments {
 }
 
 /// Whether the schema has each of the kinds.
-#[tactic(auto, using(std::proofs::lemmas::Bool::ltb_from_iff))]
 pub fn has_each(schema: &Schema, kinds: &[KindId]) -> bool
     ensures { result ≡ knows_each schema.now.kinds kinds.now }
 {
     for kind in kinds {
-        if !schema.has(*kind) {
+        if !is_known(schema, *kind) {
             return false;
         }
     }
     true
+}
+
+fn is_known(schema: &Schema, kind: KindId) -> bool
+    ensures { result ≡ nat_lt kind.place (length schema.now.kinds) }
+{
+    schema.has(kind)
 }
 
 /// Reads the input until it ends or more bytes are there than a text may have, and tells what it stands for: a JSON
@@ -102,7 +107,6 @@ fn arguments_in(
 }
 
 // What the items of a text stand for.
-#[tactic(auto, using(crate::proofs::Inside::counted))]
 fn encoded_items(
     alloc: Global,
     schema: &Schema,
@@ -113,6 +117,7 @@ fn encoded_items(
 ) -> Result<Arguments, Failure>
     requires known { IsTrue (knows_each schema.now.kinds kinds.now) }
     requires items { AreItems text.now (length kinds.now) items.now }
+    requires counted { length items.now ≡ length kinds.now }
     ensures right { IfOk result (λ e. AreRight (record {
       kinds = schema.now.kinds;
       places = places_of kinds.now;
