@@ -212,8 +212,11 @@ PINGED = [
     (["536870913.1"], MISMATCH, 1, b"", b"refused PROG_MISMATCH 2 4\n"),
     (["536870913.1"], words(1, 1, 0, 0, 0, 1), 1, b"", b"refused PROG_UNAVAIL\n"),
     (["536870913.1"], success(bytes(4), xid=1), 1, b"", b"result ends at 0, more follows\n"),
-    (["ASKED.2"], b"", 2, b"", b"no such program or version\n"),
-    (["ASKED.FIRST"], b"", 2, b"", b"no such program or version\n"),
+    (["ASKED.2"], b"", 2, b"", b"no such program\n"),
+    (["ASKED.FIRST"], b"", 2, b"", b"no such program\n"),
+    (["ASKED.SECOND", "--types", "asked.x"], b"", 2, b"", b"no such version\n"),
+    (["1.2.3"], b"", 2, b"", b"not PROGRAM or PROGRAM.VERSION\n"),
+    (["536870913.01"], b"", 2, b"", b"part 2 is no number\n"),
 ]
 
 

@@ -1,3 +1,4 @@
 pub mod Decimals
+pub mod Numbered
 pub mod Texts
 pub mod Worked

@@ -14,3 +14,4 @@ pub mod Sourced
 pub mod Endings
 pub mod Spelling
 pub mod Unlisted
+pub mod Divided

@@ -4,13 +4,14 @@ ghost use Rattle.oncrpc_call.specs.Asked.{CanBeMade};
 
 use crate::arguments::arguments_for;
 use crate::files::FileOpener;
-use crate::known::known_texts;
-use crate::unmade::{Unmade, line, unasked_line};
-use oncrpc_answers::Texts;
+use crate::unmade::{Unmade, line, unasked_line, unnamed_line};
+use oncrpc_answers::{Dialect, Texts};
 use oncrpc_call::{Asked, Form, Terms, Unasked, ask};
-use oncrpc_procedures::procedure_named;
+use oncrpc_procedures::{
+    NamedProgram, UnnamedProgram, installed_text, procedure_named, program_named,
+};
 use oncrpc_tasks::declared;
-use oncrpc_words::{CallTask, Caller, Printing};
+use oncrpc_words::{CallTask, Caller, PingTask, Printing};
 use rpc_message::{AuthSys, OpaqueAuth, write_auth_sys};
 use std::alloc::{AllocError, Global};
 use std::time::{SystemTime, UNIX_EPOCH};
@@ -18,14 +19,53 @@ use xdr_json::Layout;
 use xdr_lang::{Declared, Procedure};
 use xdr_types::{KindId, Limits};
 
-/// What texts of the system's files declare.
-pub fn declared_by(rt: &HostRuntime, types: &Texts) -> Result<Declared, Unmade> {
+/// The program that a ping names, and the version of it. Installed declarations are read where no files are named, and
+/// the numbers alone do not tell.
+pub fn pinged_by(rt: &HostRuntime, what: &PingTask) -> Result<NamedProgram, Unmade> {
+    let declared = declared_by(rt, &what.types)?;
+    let why = match program_named(&declared, what.name.as_bytes()) {
+        Ok(named) => return Ok(named),
+        Err(why) => why,
+    };
+    if let UnnamedProgram::NoProgram | UnnamedProgram::NoVersion = why {
+        if let Some(declared) = declared_installed(rt, &what.types, &what.name)? {
+            return match program_named(&declared, what.name.as_bytes()) {
+                Ok(named) => Ok(named),
+                Err(why) => Err(unnamed_line(rt.alloc(), why)),
+            };
+        }
+    }
+    Err(unnamed_line(rt.alloc(), why))
+}
+
+// What texts of the system's files declare.
+fn declared_by(rt: &HostRuntime, types: &Texts) -> Result<Declared, Unmade> {
     declared_in(rt, types, FileOpener::new(rt)?)
 }
 
-/// What texts that are installed with the program declare.
-pub fn declared_by_known(rt: &HostRuntime, types: &Texts) -> Result<Declared, Unmade> {
-    declared_in(rt, types, FileOpener::installed(rt)?)
+// What the installed text declares for a name that begins with a program's, where no files are named and there is one.
+fn declared_installed(
+    rt: &HostRuntime,
+    types: &Texts,
+    name: &str,
+) -> Result<Option<Declared>, Unmade> {
+    if !types.files.is_empty() {
+        return Ok(None);
+    }
+    let Some(text) = installed_text(name.as_bytes()) else {
+        return Ok(None);
+    };
+    let types = texts_of(rt.alloc(), text)?;
+    Ok(Some(declared_in(rt, &types, FileOpener::installed(rt)?)?))
+}
+
+fn texts_of(alloc: Global, name: &str) -> Result<Texts, AllocError> {
+    let mut files = Vec::new(alloc);
+    files.push(String::from_str(alloc, name)?)?;
+    Ok(Texts {
+        files,
+        dialect: Dialect::Rfc,
+    })
 }
 
 fn declared_in(
@@ -44,8 +84,8 @@ pub fn asked_by(rt: &HostRuntime, what: &CallTask) -> Result<Asked, Unmade>
     ensures { IfOk result (λ a. CanBeMade a) }
 {
     let alloc = rt.alloc();
-    let declared = match known_texts(alloc, &what.types, &what.name)? {
-        Some(types) => declared_by_known(rt, &types)?,
+    let declared = match declared_installed(rt, &what.types, &what.name)? {
+        Some(declared) => declared,
         None => declared_by(rt, &what.types)?,
     };
     let Some(limits) = Limits::new(what.depth, what.bytes) else {

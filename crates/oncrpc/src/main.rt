@@ -2,8 +2,8 @@
 //! of rpcbind.
 //!
 //! - `run` does what the words ask, with `files` for texts of declarations.
-//! - `calling` calls what `asking` finds in the words, `known` texts and the `arguments`, of which several are `items`
-//!   of JSON; `unmade` says why there is no call. `pinging` calls procedure 0 of what is `pinged`.
+//! - `calling` calls what `asking` finds in the words, the declarations and the `arguments`; `unmade` says why there is
+//!   no call. `pinging` calls procedure 0 of a program.
 //! - `reaching` makes the call, at the port that a registry tells (`ports`), and `timed` waits no longer than that;
 //!   `unreached` says why there is no answer.
 //! - `network` asks a registry, and serves one to so many clients; `keeping` serves one as long as the program runs.
@@ -13,11 +13,8 @@ mod arguments;
 mod asking;
 mod calling;
 mod files;
-mod items;
 mod keeping;
-mod known;
 mod network;
-mod pinged;
 mod pinging;
 mod ports;
 mod reaching;

@@ -1,13 +1,14 @@
 //! Programs that are called by their procedure without arguments and results (RFC 5531 section 12.1).
 ghost use Rattle.std.specs.Prelude.{◌≤◌, IfOk};
 
-use crate::pinged::{Pinged, pinged_by};
+use crate::asking::pinged_by;
 use crate::reaching::{addresses_of, call_at, places_of};
 use crate::timed::Until;
 use crate::unmade::say_unmade;
 use crate::unreached::{Unreached, say_unreached};
 use oncrpc_answers::{Failure, report};
 use oncrpc_call::ask_null;
+use oncrpc_procedures::NamedProgram;
 use oncrpc_words::{Peer, PingTask};
 use std::alloc::{AllocError, Global};
 use std::net::SocketAddr;
@@ -41,7 +42,7 @@ pub fn ping<O: Sink, F: Sink>(
 fn ping_each<O: Sink, F: Sink>(
     rt: &HostRuntime,
     what: &PingTask,
-    pinged: Pinged,
+    pinged: NamedProgram,
     output: &mut O,
     faults: &mut F,
 ) -> Result<u8, Unreached>
@@ -66,7 +67,7 @@ fn ping_each<O: Sink, F: Sink>(
 fn ping_once<O: Sink, F: Sink>(
     rt: &HostRuntime,
     peer: &Peer,
-    pinged: Pinged,
+    pinged: NamedProgram,
     places: &[SocketAddr],
     output: &mut O,
     faults: &mut F,
@@ -104,7 +105,7 @@ fn ping_once<O: Sink, F: Sink>(
 // The version that answered, or those that a program has of which none was named; none where that is no answer.
 fn answered(
     alloc: Global,
-    pinged: Pinged,
+    pinged: NamedProgram,
     status: u8,
     line: &[u8],
 ) -> Result<Option<String>, AllocError> {

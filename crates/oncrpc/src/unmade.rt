@@ -3,6 +3,7 @@ ghost use Rattle.std.specs.Prelude.{◌≤◌};
 
 use oncrpc_answers::{Failure, Texts, report};
 use oncrpc_call::Unasked;
+use oncrpc_procedures::UnnamedProgram;
 use oncrpc_tasks::{Unusable, refuse_texts, say_line};
 use std::alloc::{AllocError, Global};
 use xdr_io::{InputFault, Sink};
@@ -56,6 +57,14 @@ pub fn unasked_line(alloc: Global, why: Unasked) -> Unmade {
     if why == Unasked::NoMemory {
         return Unmade::Failed(Failure::NoMemory);
     }
+    match format!(in alloc; "{why}\n") {
+        Ok(line) => Unmade::Line(line),
+        Err(_) => Unmade::Failed(Failure::NoMemory),
+    }
+}
+
+/// The line of why a name names no program.
+pub fn unnamed_line(alloc: Global, why: UnnamedProgram) -> Unmade {
     match format!(in alloc; "{why}\n") {
         Ok(line) => Unmade::Line(line),
         Err(_) => Unmade::Failed(Failure::NoMemory),

@@ -1,3 +1,16 @@
+pub mod Answering
+pub mod Arguing
+pub mod Arrayed
+pub mod Balanced
+pub mod Closing
+pub mod Each
 pub mod Ending
+pub mod Inside
+pub mod Once
+pub mod OneItem
+pub mod Places
+pub mod Pushing
 pub mod Reading
+pub mod Spaces
+pub mod Stepping
 pub mod Telling

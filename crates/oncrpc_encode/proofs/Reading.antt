@@ -19,7 +19,7 @@ use Rattle.oncrpc_encode.specs.declared.refusal.Refusal.{Refusal}
 use Rattle.oncrpc_encode.specs.declared.refusal.Refusal.TheVariants as refusal
 
 -- A text that is not too long was read to its end.
-all_read : (text rest bytes : List ℕ) → text ≡ bytes ++ rest → rest ≡ [] → bytes ≡ text
+pub all_read : (text rest bytes : List ℕ) → text ≡ bytes ++ rest → rest ≡ [] → bytes ≡ text
 all_read text rest bytes is none = sym (is ∙ ap (λ (x : List ℕ). bytes ++ x) none ∙ append-nil bytes)
 
 right_read : (s : Sought) (left left' : Option (List ℕ)) (bytes : List ℕ) (e : Encoded) → Consumes left left' bytes

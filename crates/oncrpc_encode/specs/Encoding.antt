@@ -25,9 +25,13 @@ pub record Sought : Type 0 where
 abbrev pub sought_of : Target → Sought
 sought_of t = record { kinds = t.schema.kinds; place = t.kind.place; limits = t.limits }
 
--- how many bytes a text has at most: 16 for each byte that the value may have, and 2^20 more (own)
+-- how many bytes a text has at most: 16 for each byte that a value may have, and 2^20 more (own)
+abbrev pub most_bytes : Bounds → ℕ
+most_bytes limits = 16 * limits.bytes + 1048576
+
+-- so many for a value that is looked for
 abbrev pub most_text : Sought → ℕ
-most_text s = 16 * s.limits.bytes + 1048576
+most_text s = most_bytes s.limits
 
 -- The text spells a value within the limits and no other, and the bytes are that value's (RFC 4506 section 4).
 pub record IsEncoding (s : Sought) (text bytes : List ℕ) : Type 0 where

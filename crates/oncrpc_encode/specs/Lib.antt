@@ -1,3 +1,5 @@
+pub mod Arguments
+pub mod Arrays
 pub mod EncodeEnds
 pub mod Encoding
 pub mod Lines

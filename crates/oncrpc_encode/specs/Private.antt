@@ -1,2 +1,4 @@
 -- Definitions that only private functions cite. No contract of a public call names any of it.
+pub mod Each
 pub mod Refused
+pub mod Scanned

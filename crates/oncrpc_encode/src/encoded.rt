@@ -2,7 +2,7 @@
 ghost use Rattle.std.specs.Prelude.{◌≡◌, ◌+◌, ◌<◌, ◌≤◌, length, IfOk, IfErr, OnOk, IsErrOf};
 ghost use Rattle.xdr_io.specs.Reported.{Counts, CountsAtMost, MovesAtMost};
 ghost use Rattle.xdr_io.specs.declared.input.TheConstants.{MOST_READS};
-ghost use Rattle.oncrpc_encode.specs.Encoding.{IsRight, IsRightFor, most_text, sought_of};
+ghost use Rattle.oncrpc_encode.specs.Encoding.{IsRight, IsRightFor, most_bytes, most_text, sought_of};
 ghost use Rattle.oncrpc_encode.specs.Private.Refused.{IsRefusedFor};
 
 use super::refusal::Refusal;
@@ -12,6 +12,7 @@ use std::alloc::Global;
 use xdr_codec::encode;
 use xdr_io::{Source, read_past};
 use xdr_json_reader::{JsonFault, JsonReason, line_and_column, read_json};
+use xdr_types::Limits;
 
 /// What a text of JSON stands for.
 #[derive(Drop)]
@@ -45,7 +46,7 @@ pub fn encoded_over<I: Source>(
     // and at most a page more than the limit on a text is read.
     ensures moved { MovesAtMost (most_text (sought_of target.now) + 4096) (I.left input.old) (I.left input.new) }
 {
-    let most = most_text(target);
+    let most = most_text(target.limits);
     let text = read_past(alloc, input, most)?;
     if text.len() > most {
         return Ok(Encoded::Refused(Refusal::TooLong));
@@ -53,11 +54,11 @@ pub fn encoded_over<I: Source>(
     encoded_text(alloc, target, &text)
 }
 
-// How many bytes a text has at most.
-fn most_text(target: &Target) -> usize
-    ensures { result ≡ most_text (sought_of target.now) }
+/// How many bytes a text has at most.
+pub fn most_text(limits: Limits) -> usize
+    ensures { result ≡ most_bytes limits }
 {
-    16 * target.limits.bytes() as usize + 1048576
+    16 * limits.bytes() as usize + 1048576
 }
 
 // What a text stands for that is not too long.
@@ -79,8 +80,8 @@ fn encoded_text(alloc: Global, target: &Target, text: &[u8]) -> Result<Encoded, 
     }
 }
 
-// A fault of a text by its line and column.
-fn refusal_of(text: &[u8], fault: JsonFault) -> Result<Refusal, Failure>
+/// A fault of a text by its line and column.
+pub fn refusal_of(text: &[u8], fault: JsonFault) -> Result<Refusal, Failure>
     requires { fault.at ≤ length text.now }
     ensures refused { IfOk result (λ r. IsRefusedFor text.now fault.why fault.at r) }
     ensures memory { IfErr result (λ f. f ≡ Failure.NoMemory) }

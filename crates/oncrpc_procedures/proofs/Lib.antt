@@ -1,3 +1,6 @@
 pub mod Cuts
+pub mod Finding
 pub mod First
 pub mod Meaning
+pub mod Naming
+pub mod ProgramCuts

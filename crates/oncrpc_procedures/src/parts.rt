@@ -1,5 +1,6 @@
 //! The parts of a procedure's name. Nothing here takes memory.
 ghost use Rattle.std.specs.Prelude.{◌≡◌, IfErr, IfOk, IfSome, MatchBool, MatchOption};
+ghost use Rattle.std.specs.Str.{bytes_eq};
 ghost use Rattle.oncrpc_procedures.specs.Meant.{Parts as PlainParts, begins_with_digit, means};
 ghost use Rattle.oncrpc_procedures.specs.Names.{AreReadable, IsCut, IsNoNumber};
 ghost use Rattle.oncrpc_procedures.specs.Private.Search.{HasNoParts, parts_of};
@@ -63,8 +64,8 @@ fn first_unread(parts: &Parts<'_>) -> Option<u8>
     None
 }
 
-// Whether a part begins as a number does and is none.
-fn is_no_number(part: &[u8]) -> bool
+/// Whether a part begins as a number does and is none.
+pub fn is_no_number(part: &[u8]) -> bool
     ensures { MatchBool result (IsNoNumber part.now) (IsNoNumber part.now → ⊥) }
 {
     if !begins_with_digit(part) {
@@ -76,7 +77,7 @@ fn is_no_number(part: &[u8]) -> bool
     }
 }
 
-fn begins_with_digit(part: &[u8]) -> bool
+pub fn begins_with_digit(part: &[u8]) -> bool
     ensures { result ≡ begins_with_digit part.now }
 {
     match part.first() {
@@ -90,10 +91,17 @@ pub fn is_meant(part: &[u8], name: &str, number: u32) -> bool
     ensures { result ≡ means part.now name.now number }
 {
     if !begins_with_digit(part) {
-        return part == name.as_bytes();
+        return is_name(part, name);
     }
     match decimal_number(part) {
         Some(read) => read == number,
         None => false,
     }
+}
+
+/// Whether a part is this name.
+pub fn is_name(part: &[u8], name: &str) -> bool
+    ensures { result ≡ bytes_eq part.now name.now }
+{
+    part == name.as_bytes()
 }

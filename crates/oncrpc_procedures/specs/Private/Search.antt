@@ -1,13 +1,15 @@
 -- The first procedure that parts mean, as it is looked for.
-use Rattle.std.specs.Prelude.{◌≡◌, ◌≢◌, ℕ, Bool, ◌&&◌, List, [], ◌∷◌, Option, None, Some, if◌then◌else◌}
+use Rattle.std.specs.Prelude.{◌≡◌, ◌≢◌, ℕ, ◌==◌, Bool, ◌&&◌, List, [], ◌∷◌, Option, None, Some, if◌then◌else◌}
 use Rattle.std.specs.List.{list_any}
 use Rattle.std.specs.Option.{option_or}
+use Rattle.std.specs.Str.{bytes_eq}
 use Rattle.xdr_lang.specs.Declarations.{Procedure, Program, Version}
 use Rattle.oncrpc_procedures.specs.declared.parts.Parts as declared
 use Rattle.oncrpc_procedures.specs.declared.unnamed.Unnamed.{Unnamed}
 use Rattle.oncrpc_procedures.specs.declared.unnamed.Unnamed.TheVariants as unnamed
 use Rattle.oncrpc_procedures.specs.Meant.{Parts, Target, means, programs_meant, versions_meant}
 use Rattle.oncrpc_procedures.specs.Names.{IsCut}
+use Rattle.oncrpc_procedures.specs.Installed.{Installed}
 use Rattle.oncrpc_procedures.specs.Unnamed.{IsFirstUnread}
 
 -- the parts, without where they lie
@@ -50,3 +52,23 @@ unfoldable pub first_in_programs : Parts → List Program → Option Target
 first_in_programs p [] = None
 first_in_programs p (x ∷ xs) = if means p.program x.name x.number then option_or
     (first_in_versions p x.number x.versions) (first_in_programs p xs) else first_in_programs p xs
+
+-- the number of the first program of a name
+unfoldable pub first_called : (name : List ℕ) → List Program → Option ℕ
+first_called name [] = None
+first_called name (x ∷ xs) = if bytes_eq name x.name then Some x.number else first_called name xs
+
+-- and of the first version, of these and of the programs with a number
+unfoldable pub first_version : (name : List ℕ) → List Version → Option ℕ
+first_version name [] = None
+first_version name (v ∷ vs) = if bytes_eq name v.name then Some v.number else first_version name vs
+
+unfoldable pub first_version_of : (name : List ℕ) → (program : ℕ) → List Program → Option ℕ
+first_version_of name program [] = None
+first_version_of name program (x ∷ xs) = if x.number == program then option_or (first_version name x.versions)
+    (first_version_of name program xs) else first_version_of name program xs
+
+-- the text of the first row that a part means
+unfoldable pub first_text : (part : List ℕ) → List Installed → Option (List ℕ)
+first_text part [] = None
+first_text part (r ∷ rs) = if means part r.name r.number then Some r.name else first_text part rs
