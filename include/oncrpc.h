@@ -159,7 +159,8 @@ enum {
     ONCRPC_JSON_WRONG_TYPE = 5,     /* JSON of another form than the kind's */
     ONCRPC_JSON_OUT_OF_RANGE = 6,   /* a number out of the range of its type, or that no member of the enum has; a
                                        string in the place of a number that is none */
-    ONCRPC_JSON_NOT_WHOLE = 7,      /* the same where its text has a `.`, an `e` or an `E`: a fraction or an exponent */
+    ONCRPC_JSON_NOT_WHOLE = 7,      /* the same where its text has a `.`, an `e` or an `E`: a fraction, an exponent, or
+                                       a word such as "hello" */
     ONCRPC_JSON_UNKNOWN_NAME = 8,   /* a name that no member of the enum has */
     ONCRPC_JSON_BAD_HEX = 9,        /* a string that is no pairs of hexadecimal digits */
     ONCRPC_JSON_WRONG_LENGTH = 10,  /* more or fewer bytes or items than the kind has */
@@ -998,8 +999,8 @@ static inline const char *oncrpc_json_text(uint32_t why) {
     case ONCRPC_JSON_MISSING_MEMBER: return "a member is missing";
     case ONCRPC_JSON_MEMBER_TWICE: return "a member that stands twice";
     case ONCRPC_JSON_WRONG_TYPE: return "JSON of another form than the type's";
-    case ONCRPC_JSON_OUT_OF_RANGE: return "a number that is out of its type's range";
-    case ONCRPC_JSON_NOT_WHOLE: return "a number with a fraction or an exponent";
+    case ONCRPC_JSON_OUT_OF_RANGE: return "a number out of its type's range, or no number";
+    case ONCRPC_JSON_NOT_WHOLE: return "no whole number: its text has a point, an e or an E";
     case ONCRPC_JSON_UNKNOWN_NAME: return "a name that no member of the enumeration has";
     case ONCRPC_JSON_BAD_HEX: return "no pairs of hexadecimal digits";
     case ONCRPC_JSON_WRONG_LENGTH: return "more or fewer bytes or items than the type has";

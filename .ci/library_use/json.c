@@ -11,7 +11,12 @@ static const char declared[] =
     "typedef level levels<9>;\n"
     "struct node { int number; node *next; };\n"
     "union held switch (level z) { case LOW: node there; case HIGH: void; };\n"
-    "union picked switch (int d) { case 1: int there; case 5: void; };\n";
+    "union picked switch (int d) { case 1: int there; case 5: void; };\n"
+    "typedef opaque block[16777216];\n"
+    "typedef int row[4194304];\n";
+
+/* How many bytes all growths ask for at most where a JSON text of so many is read: no type's size reserves any. */
+#define MOST_ASKED(count) (2048 + 128 * (count))
 
 struct json_row { const char *name, *input; size_t count; const char *compact, *indented; };
 static const struct json_row json_rows[] = {
@@ -57,10 +62,11 @@ static void read_back(oncrpc_declarations *held, const char *name, const char *t
     size_t written = 9;
     oncrpc_outcome outcome = {9, 9, 9, 9, 9};
     memset(room, '.', sizeof room), memset(unwritten, '.', sizeof unwritten);
+    size_t before = growth_bytes();
     uint32_t status = oncrpc_declarations_from_json(held, bytes(name), strlen(name), 9, 96, bytes(told), strlen(told),
         room, count - 1, &written, &outcome);
-    judge(status == ONCRPC_NO_ROOM && tells(&outcome, count, 0) && !written && !memcmp(room, unwritten, sizeof room),
-        status);
+    judge(status == ONCRPC_NO_ROOM && tells(&outcome, count, 0) && !written && !memcmp(room, unwritten, sizeof room)
+        && growth_bytes() - before <= MOST_ASKED(strlen(told)), status);
     status = oncrpc_declarations_from_json(held, bytes(name), strlen(name), 9, 96, bytes(told), strlen(told), room,
         count, &written, &outcome);
     judge(status == ONCRPC_OK && tells(&outcome, count, 0) && written == count && !memcmp(room, input, count)
@@ -98,10 +104,14 @@ static void refuse_texts(oncrpc_declarations *held) {
         {"node", "{\"next\":null,\n\n\"number\":[]}", 9, 96, ONCRPC_JSON_WRONG_TYPE, 24, 3, 10, "another form"},
         {"int", "\n\n 2147483648", 9, 96, ONCRPC_JSON_OUT_OF_RANGE, 3, 3, 2, "range"},
         {"level", "5", 9, 96, ONCRPC_JSON_OUT_OF_RANGE, 0, 1, 1, "range"},
-        {"int", "1.5", 9, 96, ONCRPC_JSON_NOT_WHOLE, 0, 1, 1, "fraction"},
+        {"int", "\"salut\"", 9, 96, ONCRPC_JSON_OUT_OF_RANGE, 0, 1, 1, "or no number"},
+        {"int", "1.5", 9, 96, ONCRPC_JSON_NOT_WHOLE, 0, 1, 1, "no whole number"},
+        {"int", "\"hello\"", 9, 96, ONCRPC_JSON_NOT_WHOLE, 0, 1, 1, "an e"},
         {"level", "\"MIDDLE\"", 9, 96, ONCRPC_JSON_UNKNOWN_NAME, 0, 1, 1, "a name"},
         {"some", "\"0fz0\"", 9, 96, ONCRPC_JSON_BAD_HEX, 0, 1, 1, "hexadecimal"},
         {"levels", "[7,7,7,7,7,7,7,7,7,7]", 9, 96, ONCRPC_JSON_WRONG_LENGTH, 0, 1, 1, "more or fewer"},
+        {"block", "\"00\"", 9, ONCRPC_MOST_BYTES, ONCRPC_JSON_WRONG_LENGTH, 0, 1, 1, "more or fewer"},
+        {"row", "[7]", 9, ONCRPC_MOST_BYTES, ONCRPC_JSON_WRONG_LENGTH, 0, 1, 1, "more or fewer"},
         {"picked", "{\"case\":2}", 9, 96, ONCRPC_JSON_NO_ARM, 8, 1, 9, "arm"},
         {"node", "{\"number\":3,\n\"next\":{\"number\":3,\"next\":null}}", 3, 96, ONCRPC_JSON_TOO_DEEP, 45, 2, 33,
             "deeper"},
@@ -111,7 +121,7 @@ static void refuse_texts(oncrpc_declarations *held) {
     memset(brackets, '[', sizeof brackets - 1);
     for (size_t i = 0; i < sizeof refused / sizeof *refused; i++) {
         uint8_t room[64], unwritten[64];
-        size_t written = 9;
+        size_t written = 9, before = growth_bytes();
         oncrpc_outcome outcome = {9, 9, 9, 9, 9};
         memset(room, '.', sizeof room), memset(unwritten, '.', sizeof unwritten);
         uint32_t status = oncrpc_declarations_from_json(held, bytes(refused[i].name), strlen(refused[i].name),
@@ -119,7 +129,8 @@ static void refuse_texts(oncrpc_declarations *held) {
             &written, &outcome);
         judge(status == ONCRPC_BAD_JSON && outcome.why == refused[i].why && outcome.at == refused[i].at
             && outcome.line == refused[i].line && outcome.column == refused[i].column && !outcome.inner && !written
-            && !memcmp(room, unwritten, sizeof room) && strstr(oncrpc_json_text(outcome.why), refused[i].word), status);
+            && !memcmp(room, unwritten, sizeof room) && strstr(oncrpc_json_text(outcome.why), refused[i].word)
+            && growth_bytes() - before <= MOST_ASKED(strlen(refused[i].told)), status);
     }
 }
 

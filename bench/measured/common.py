@@ -108,6 +108,15 @@ def processor(words, runs=3, given=os.devnull):
     return best
 
 
+def resident(words, given):
+    """The most bytes that a process has resident, whatever its status; no less than this one has when it begins."""
+    with open(given, "rb") as source:
+        begun = subprocess.Popen(words, stdin=source, stdout=subprocess.DEVNULL, stderr=subprocess.DEVNULL)
+        _, status, usage = os.wait4(begun.pid, 0)
+    begun.returncode = os.waitstatus_to_exitcode(status)
+    return usage.ru_maxrss * 1024
+
+
 def beside(name, ours, theirs, given, units, counted=True):
     """One line: our wall time and instructions over libtirpc's, and instructions a unit of each."""
     mine, wrote = wall(ours, given)

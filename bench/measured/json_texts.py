@@ -3,7 +3,7 @@ import os
 import struct
 import sys
 
-from .common import CALLS_OF_JSON, ROOT, instructions, per_value, processor, wall
+from .common import CALLS_OF_JSON, ROOT, instructions, per_value, processor, resident, wall
 
 # The works, and what ours is of theirs: `bytes` is known to be a value's before, where theirs decodes it each time.
 WORKS = {
@@ -92,6 +92,9 @@ def hostile_texts():
         "100,000 members": ("list", b"{%s}" % named),
         "one member 100,000 times": ("list", b"{%s}" % b",".join([b'"item":"a"'] * 100000)),
         "one member of a union 100,000 times": ("u", b"{%s}" % b",".join([b'"case":1'] * 100000)),
+        # A value in each two or three bytes.
+        "numbers of a digit": ("nums", b"[%s7]" % (b"7," * (MEBIBYTE // 2))),
+        "objects without members": ("nums", b"[%s{}]" % (b"{}," * (MEBIBYTE // 3))),
         # What is refused at the very end, so that all before it is gone over once more in the order of the text.
         "numbers, the last one wrong": ("nums", b"[%strue]" % (b"7," * (MEBIBYTE // 2))),
         "objects inside one another, an unknown member in each": ("list", level * 4000 + b"null" + b',"no":1}' * 4000),
@@ -99,13 +102,18 @@ def hostile_texts():
 
 
 def hostile(folder):
-    """The processor time of each hostile text; returns the texts above the most."""
+    """The processor time of each hostile text, and what it holds; returns the texts above the most."""
     above = []
     for name, (kind, text) in hostile_texts().items():
         _, ours_given = given(folder, "hostile", text)
         taken = processor([CALLS_OF_JSON, "read", kind, "1"], given=ours_given)
         above += [name] if taken > MOST else []
-        print(f"json, {name}, {len(text) / MEBIBYTE:.2f} MiB: {taken:.3f} seconds of processor time", flush=True)
+        held = resident([CALLS_OF_JSON, "read", kind, "1"], ours_given) / len(text)
+        print(
+            f"json, {name}, {len(text) / MEBIBYTE:.2f} MiB: {taken:.3f} seconds of processor time, {held:.0f} bytes a"
+            " byte resident",
+            flush=True,
+        )
     return above
 
 

@@ -1,5 +1,5 @@
 """Random values from JSON. What is written for each is read as its bytes, and so is a text that says the same; of a
-text that was changed `spelled` says what is to be told."""
+text that was changed `spelled` says what is to be told. Of two parts that no kind has, the first is to be told."""
 import json
 import random
 
@@ -8,13 +8,21 @@ from rows.shared import WIDEST
 from .json_read import is_told, reading
 from .mapping import texts_of, value_in
 from .random_values import random_values
-from .spelled import told_of_text
+from .spelled import place_of, told_of_text
 
 # What is put into a text: structural characters, beginnings of numbers, names and strings, bytes that are no UTF-8.
 OTHERS = [b"", b'"', b"}", b"]", b",", b":", b"[", b"{", b"\\", b"0", b"1", b".", b"e", b"-", b" ", b"\n", b"\xff"]
 OTHERS += [b"\xc3", b"null", b"true", b"hex", b"case", b'"a":']
 # What is put in the place of a value, each of a form that many kinds do not have.
 VALUES = ["7", "-1", "1.5", "4294967296", "true", "null", "[]", "{}", '""', '"0"', '"A"', '{"hex":"6"}', '{"case":0}']
+
+# What is a value of no kind. It is refused at its brace, or at its key where members are looked at.
+NO_VALUE = b'{"no such":0}'
+
+
+def is_hex(members):
+    """Whether an object may stand for a string."""
+    return len(members) == 1 and members[0][0] == "hex" and isinstance(members[0][1], str)
 
 
 class Changing:
@@ -82,6 +90,34 @@ class Changing:
         """The text with several faults, and with members in another order."""
         return self.spoil(json.loads(text, object_pairs_hook=tuple)).encode()
 
+    def pieces(self, value, is_open=True):
+        """The pieces of the JSON of a value whose objects are tuples of members, in another order, and whether
+        NO_VALUE may stand in the place of each: of a part without parts, but for a discriminant."""
+        if isinstance(value, list) and value:
+            for before, each in zip([b"["] + [b","] * len(value), value):
+                yield before, False
+                yield from self.pieces(each)
+            yield b"]", False
+        elif isinstance(value, tuple) and value and not is_hex(value):
+            moved = self.source.sample(value, len(value))
+            for before, (name, each) in zip([b"{"] + [b","] * len(value), moved):
+                yield before + json.dumps(name).encode() + b":", False
+                yield from self.pieces(each, name != "case")
+            yield b"}", False
+        else:
+            plain = dict(value) if isinstance(value, tuple) else value
+            yield json.dumps(plain).encode(), is_open
+
+    def broken(self, text):
+        """The text with NO_VALUE in two places, and the first of them; none where it has no two parts."""
+        parts = [*self.pieces(json.loads(text, object_pairs_hook=tuple))]
+        pieces, open_at = [piece for piece, _ in parts], [at for at, (_, is_open) in enumerate(parts) if is_open]
+        if len(open_at) < 2:
+            return None
+        first, second = sorted(self.source.sample(open_at, 2))
+        pieces[first] = pieces[second] = NO_VALUE
+        return b"".join(pieces), len(b"".join(pieces[:first]))
+
     def limits(self):
         """Limits on depth and on bytes, which one in ten has low."""
         if self.source.randrange(10):
@@ -89,8 +125,15 @@ class Changing:
         return self.source.randrange(1, 6), 4 * self.source.randrange(1, 12)
 
 
+def told_within(text, at):
+    """Whether the fault of a text is told at this place, or at the next one."""
+    places = {place_of(text, at), place_of(text, at + 1)}
+    return lambda told: told.answer.startswith("refused ") and told.answer.partition(" at ")[2] in places
+
+
 def random_read_cases(seed=1, count=2000):
-    """Random values: three texts that say each, and four that were changed, one of them in several places."""
+    """Random values: three texts that say each, four that were changed, one of them in several places, and one with two
+    parts of no kind, of which the first is told."""
     change = Changing(random.Random(seed))
     for text, kinds, name, place, given in random_values(seed, count):
         value, _ = value_in(kinds, place, given)
@@ -102,3 +145,6 @@ def random_read_cases(seed=1, count=2000):
             limits = change.limits()
             answer, streams = told_of_text(kinds, place, changed, *limits)
             yield reading(text, name, changed, *limits), is_told(answer, *streams)
+        broken = change.broken(plain)
+        if broken:
+            yield reading(text, name, broken[0]), told_within(*broken)

@@ -10,6 +10,8 @@ MONTHS = b"""enum month { JAN = 1, FEB = 2, MAR = 3, APR = 4, MAY = 5, JUN = 6, 
 NOV = 11, DEC = 12, XMAS = 12 }; typedef month months<>;
 union day switch (month m) { case JAN: int day; case DEC: string case_<>; };
 """
+# Content and arrays of 16 MiB, of which a text may have nothing.
+BLOCKS = b"typedef opaque block[16777216]; typedef int row[4194304]; typedef row grid<>;"
 CASE_ARM = b"union u switch (bool d) { case TRUE: int case_; case FALSE: hyper hex; };"
 # What says the same as the text that is written: a text of declarations, a kind, the JSON, and the bytes.
 READ = [
@@ -87,6 +89,7 @@ READ = [
     (b"", "own", b'{"":-1,"case":false}', "00000000 ffffffff ffffffff"),
     # Void (4.16) and optional data (4.19).
     (b"", "void", b"{ }", ""),
+    (BLOCKS, "grid", b"[]", "00000000"),
     (LIST, "list", b" null ", "00000000"),
     (LIST, "list", b'{"next":{"next":null,"item":"bc"},"item":"a"}', TWO_ENTRIES),
     (OPTIONAL, "optional", b'{"hex":"61"}', "00000001 00000001 61000000"),
@@ -172,6 +175,7 @@ REFUSED = [
     (SIX, "six", b'^"61626364656667"', "WrongLength"),
     (SIX, "six", b'^"61626364656"', "BadHex"),
     (MORE, "five", b'^"010203040506"', "WrongLength"),
+    (BLOCKS, "block", b'^"00"', "WrongLength"),
     (b"", "string", b"^7", "WrongType"),
     (b"", "string", b"^null", "WrongType"),
     (b"", "string", b"^{}", "WrongType"),
@@ -191,6 +195,8 @@ REFUSED = [
     (MORE, "two", b"^[1]", "WrongLength"),
     (MORE, "two", b"^[1,2,3]", "WrongLength"),
     (MORE, "two", b"^null", "WrongType"),
+    (BLOCKS, "row", b"^[7]", "WrongLength"),
+    (BLOCKS, "grid", b"[^[7]]", "WrongLength"),
     # Structures: values and keys, in the order of the text.
     (FILE, "file", b'^[]', "WrongType"),
     (FILE, "file", b' ^{}', "MissingMember"),

@@ -25,7 +25,7 @@ pub enum JsonReason {
     /// A number out of the range of its type, or that no member of the enum has; a string in the place of a number
     /// that is none.
     OutOfRange,
-    /// The same where its text has a `.`, an `e` or an `E`: a fraction or an exponent.
+    /// The same where its text has a `.`, an `e` or an `E`: a fraction, an exponent, or a word such as `"hello"`.
     NotWhole,
     /// A name that no member of the enum has.
     UnknownName,
