@@ -15,7 +15,7 @@ static const char declared[] =
     "typedef opaque block[16777216];\n"
     "typedef int row[4194304];\n";
 
-/* How many bytes a JSON text of so many has growths ask for at most, in all: no type's size and no count reserves any. */
+/* How many bytes all growths ask for at most where a JSON text of so many is read: no type's size reserves any. */
 #define MOST_ASKED(count) (2048 + 128 * (count))
 
 struct json_row { const char *name, *input; size_t count; const char *compact, *indented; };
