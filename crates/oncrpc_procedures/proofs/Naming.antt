@@ -11,9 +11,9 @@ use Rattle.oncrpc_procedures.specs.declared.unnamed_program.UnnamedProgram.{Unna
 use Rattle.oncrpc_procedures.specs.declared.unnamed_program.UnnamedProgram.TheVariants as unnamed
 
 -- where there is none
-pub at_none : {P : Type 0} {Q : ℕ → Type 0} (o : Option ℕ) → o ≡ None → MatchOption o P Q → P
-at_none None is h = h
-at_none (Some n) is h = cc
+pub at_none : {P : Type 0} (Q : ℕ → Type 0) (o : Option ℕ) → o ≡ None → MatchOption o P Q → P
+at_none Q None is h = h
+at_none Q (Some n) is h = cc
 
 module _ (text : List ℕ) (ps : List Program) (q : declared.ProgramParts)
     (cut : IsProgramCut (program_parts_of q).program (program_parts_of q).version text) where

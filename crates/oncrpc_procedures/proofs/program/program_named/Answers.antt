@@ -7,7 +7,7 @@ pub returns-in_default-clause-refused : goal.returns-in_default-clause-refused
 returns-in_default-clause-refused c =
     no_program c.args.text.now (declared_of c.args.declared.now).programs c.in_ok-parts.parts
     c.in_ok-parts.ensures.found.0 c.in_ok-parts.ensures.found.1
-    (at_none c.program_meant.result c.in_default.is (rw c.deref.ensures.value at c.program_meant.ensures))
+    (at_none _ c.program_meant.result c.in_default.is (rw c.deref.ensures.value at c.program_meant.ensures))
 
 pub returns-in_default-version-clause-found : goal.returns-in_default-version-clause-found
 returns-in_default-version-clause-found c =
