@@ -1,7 +1,8 @@
 -- A text that is an array of three items.
 use Rattle.std.proofs.Common.{◌≡◌, ℕ, Bool, true, false, List, [], ◌∷◌, Option, None, Some, Result, Ok, Err, IfOk}
 use Rattle.std.proofs.Common.{IfSome}
-use Rattle.std.proofs.Common.{IfNone, MatchOption, Vec, codes, length, refl, ap, sym, ◌∙◌, arith, ⊤}
+use Rattle.std.proofs.Common.{IfNone, MatchOption, Vec, codes, length, refl, ap, sym, ◌∙◌, arith}
+use Rattle.std.specs.Prelude.{⊤}
 use Rattle.std.specs.declared.alloc.AllocError.{AllocError}
 use Rattle.std.specs.declared.alloc.Global.{Global}
 use Rattle.oncrpc_encode.specs.declared.item.Item.{Item}
