@@ -6,6 +6,7 @@
 //!   of JSON; `unmade` says why there is no call. `pinging` calls procedure 0 of what is `pinged`.
 //! - `reaching` makes the call, at the port that a registry tells (`ports`), and `timed` waits no longer than that;
 //!   `unreached` says why there is no answer.
+//! - `watching` reads what peers said.
 //! - `network` asks a registry, and serves one to so many clients; `keeping` serves one as long as the program runs.
 #![tactic(auto)]
 
@@ -25,6 +26,7 @@ mod run;
 mod timed;
 mod unmade;
 mod unreached;
+mod watching;
 
 use std::process::ExitCode;
 
