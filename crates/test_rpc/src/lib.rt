@@ -1,7 +1,13 @@
-//! Tests of the registry by its public calls, and of a law of records.
+//! Tests of the registry by its public calls, of a law of records, and of streams that are put together.
+//!
+//! - `registry`: the registry. `records`: a law of records. `streams`: random segments, beside a plain `model`.
 #![tactic(auto)]
 
+#[cfg(test)]
+mod model;
 #[cfg(test)]
 mod records;
 #[cfg(test)]
 mod registry;
+#[cfg(test)]
+mod streams;
