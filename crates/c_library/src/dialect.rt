@@ -1,7 +1,7 @@
 //! Declarations in rpcgen's dialect.
 ghost use Rattle.std.specs.Prelude.{option_map};
 ghost use Rattle.xdr_lang.specs.Views.{declared_of};
-ghost use Rattle.c_dialect.specs.Read.{IsReading};
+ghost use Rattle.c_texts.specs.Read.{IsReading};
 ghost use Rattle.c_values.specs.Statuses.{Reports};
 
 use c_answers::Outcome;
@@ -24,5 +24,5 @@ pub extern "C" fn oncrpc_declarations_read_dialect(
 ) -> u32
     ensures { Reports (IsReading names.now text.now (option_map declared_of handle.new.declared)) result outcome.new }
 {
-    c_dialect::read_dialect_declarations(alloc, text, names, handle, outcome)
+    c_texts::read_dialect_declarations(alloc, text, names, handle, outcome)
 }

@@ -1,8 +1,8 @@
 //! Values as JSON, both ways (RFC 8259).
 ghost use Rattle.std.specs.Prelude.{◌≡◌, option_map};
 ghost use Rattle.xdr_lang.specs.Views.{declared_of};
-ghost use Rattle.c_json.specs.Told.{IsToldByHeld};
-ghost use Rattle.c_json.specs.Spelled.{IsReadByHeld, ReportsSpelled};
+ghost use Rattle.c_texts.specs.Told.{IsToldByHeld};
+ghost use Rattle.c_texts.specs.Spelled.{IsReadByHeld, ReportsSpelled};
 ghost use Rattle.c_values.specs.Statuses.{Reports};
 
 use c_answers::Outcome;
@@ -35,7 +35,7 @@ pub extern "C" fn oncrpc_declarations_to_json(
     ensures answer { Reports (IsToldByHeld (option_map declared_of handle.old.declared) is_indented name.now depth bytes
         input.now buffer.old buffer.new written.new) result outcome.new }
 {
-    c_json::json_by_declarations(
+    c_texts::json_by_declarations(
         alloc,
         handle,
         name,
@@ -76,7 +76,7 @@ pub extern "C" fn oncrpc_declarations_from_json(
     ensures answer { ReportsSpelled (IsReadByHeld (option_map declared_of handle.old.declared) name.now depth bytes
         text.now buffer.old buffer.new written.new) result outcome.new }
 {
-    c_json::encoding_by_declarations(
+    c_texts::encoding_by_declarations(
         alloc, handle, name, depth, bytes, text, buffer, written, outcome,
     )
 }

@@ -2,11 +2,11 @@
 //! its members.
 ghost use Rattle.std.specs.Prelude.{◌≡◌, option_map};
 ghost use Rattle.xdr_lang.specs.Views.{declared_of};
-ghost use Rattle.c_kinds.specs.Kinds.{IsNamedByHeld, IsToldByHeld, ReportsKind};
-ghost use Rattle.c_kinds.specs.Members.{ByPlace, ByNumber, IsPickedByHeld, ReportsMember};
-ghost use Rattle.c_kinds.specs.Types.{IsListedByHeld};
+ghost use Rattle.c_lookups.specs.Kinds.{IsNamedByHeld, IsToldByHeld, ReportsKind};
+ghost use Rattle.c_lookups.specs.Members.{ByPlace, ByNumber, IsPickedByHeld, ReportsMember};
+ghost use Rattle.c_lookups.specs.Types.{IsListedByHeld};
 
-use c_kinds::{KindParts, MemberParts};
+use c_lookups::{KindParts, MemberParts};
 use c_values::Handle;
 use std::alloc::Global;
 
@@ -27,7 +27,7 @@ pub extern "C" fn oncrpc_declarations_named(
     ensures answer { ReportsKind (IsNamedByHeld (option_map declared_of handle.old.declared) name.now kind.old
         kind.new) result }
 {
-    c_kinds::kind_by_name(alloc, handle, name, kind)
+    c_lookups::kind_by_name(alloc, handle, name, kind)
 }
 
 /// Tells what the kind at a place is, by the declarations that the handle holds (RFC 4506 sections 4.1 to 4.19). They
@@ -48,7 +48,7 @@ pub extern "C" fn oncrpc_declarations_kind(
     ensures answer { ReportsKind (IsToldByHeld (option_map declared_of handle.old.declared) kind told.old told.new)
         result }
 {
-    c_kinds::kind_by_place(alloc, handle, kind, told)
+    c_lookups::kind_by_place(alloc, handle, kind, told)
 }
 
 /// Tells the member of an enumeration, or the field of a structure, that so many others of its kind are before (RFC
@@ -73,7 +73,7 @@ pub extern "C" fn oncrpc_declarations_member(
         (record { names = names.old; member = member.old }) (record { names = names.new; member = member.new }))
         result }
 {
-    c_kinds::member_by_place(alloc, handle, kind, index, names, member)
+    c_lookups::member_by_place(alloc, handle, kind, index, names, member)
 }
 
 /// Tells the first member of an enumeration that has a number, or the arm of a union under it, which is the default
@@ -97,7 +97,7 @@ pub extern "C" fn oncrpc_declarations_picked(
         (record { names = names.old; member = member.old }) (record { names = names.new; member = member.new }))
         result }
 {
-    c_kinds::member_by_number(alloc, handle, kind, number, names, member)
+    c_lookups::member_by_number(alloc, handle, kind, number, names, member)
 }
 
 /// Tells the type that so many others of the text are before (RFC 4506 section 6.3): the kind that it names, with
@@ -119,5 +119,5 @@ pub extern "C" fn oncrpc_declarations_type(
         (record { names = names.old; member = member.old }) (record { names = names.new; member = member.new }))
         result }
 {
-    c_kinds::type_by_index(alloc, handle, index, names, member)
+    c_lookups::type_by_index(alloc, handle, index, names, member)
 }

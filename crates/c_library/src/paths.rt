@@ -1,11 +1,11 @@
 //! One part of a value: that which a path names, and the number that it has (RFC 4506).
 ghost use Rattle.std.specs.Prelude.{◌≡◌, option_map};
 ghost use Rattle.xdr_lang.specs.Views.{declared_of};
-ghost use Rattle.c_paths.specs.Found.{IsFoundByHeld, ReportsFound};
-ghost use Rattle.c_paths.specs.Numbers.{IsNumberedByHeld, ReportsNumber};
+ghost use Rattle.c_lookups.specs.Found.{IsFoundByHeld, ReportsFound};
+ghost use Rattle.c_lookups.specs.Numbers.{IsNumberedByHeld, ReportsNumber};
 
 use c_answers::Outcome;
-use c_paths::PartNumber;
+use c_lookups::PartNumber;
 use c_values::{Handle, ValuePart};
 use std::alloc::Global;
 
@@ -34,7 +34,7 @@ pub extern "C" fn oncrpc_declarations_find(
     ensures answer { ReportsFound (IsFoundByHeld (option_map declared_of handle.old.declared) name.now depth bytes
         input.now path.now part.old part.new) result outcome.new }
 {
-    c_paths::find_by_declarations(
+    c_lookups::find_by_declarations(
         alloc, handle, name, depth, bytes, input, path, part, outcome,
     )
 }
@@ -60,5 +60,5 @@ pub extern "C" fn oncrpc_part_number(
     ensures answer { ReportsNumber (IsNumberedByHeld (option_map declared_of handle.old.declared) input.now part.now
         number.old number.new) result }
 {
-    c_paths::number_by_declarations(alloc, handle, input, part, number)
+    c_lookups::number_by_declarations(alloc, handle, input, part, number)
 }

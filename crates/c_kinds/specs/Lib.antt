@@ -1,5 +1,0 @@
-pub mod Kinds
-pub mod Members
-pub mod Private
-pub mod Types
-pub mod Worked

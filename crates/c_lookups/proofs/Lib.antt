@@ -1,0 +1,5 @@
+pub mod Places
+pub mod ReportedKinds
+pub mod Named
+pub mod Numbers
+pub mod ReportedParts

@@ -1,3 +1,0 @@
-pub mod Named
-pub mod Numbers
-pub mod Reported

@@ -1,0 +1,4 @@
+pub mod Told
+pub mod Unspelled
+mod ReportedJson
+pub mod ReportedDialect
