@@ -13,6 +13,7 @@ pub enum Mark {
     Other,
 }
 
+/// What this byte is (RFC 8259 sections 2 and 7).
 pub fn mark_of(byte: u8) -> Mark
     ensures { result ≡ mark_of byte }
 {
@@ -26,6 +27,7 @@ pub fn mark_of(byte: u8) -> Mark
     }
 }
 
+/// Whether it is white space (RFC 8259 section 2).
 pub fn is_space(byte: u8) -> bool
     ensures { result ≡ is_space byte }
 {

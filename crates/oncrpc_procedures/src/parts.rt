@@ -77,6 +77,7 @@ pub fn is_no_number(part: &[u8]) -> bool
     }
 }
 
+/// Whether a part begins with a digit, which no name does (RFC 4506 section 6.2).
 pub fn begins_with_digit(part: &[u8]) -> bool
     ensures { result ≡ begins_with_digit part.now }
 {
