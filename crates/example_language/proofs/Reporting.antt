@@ -2,7 +2,8 @@
 use Rattle.std.proofs.Common.{◌≡◌, ◌≢◌, ◌≤◌, ◌<◌, arith, ℕ, inl, inr, eqb}
 use Rattle.std.proofs.Common.{List, length, Option, Some, None, refl, sym, ap, ◌∙◌}
 use Rattle.std.proofs.Common.{Result, Ok, Err, IfOk, IfErr}
-use Rattle.std.specs.Prelude.{option_and_then, is_ok, false}
+use Rattle.std.specs.Prelude.{option_and_then, is_ok, true, false, Bool}
+use Rattle.std.proofs.lemmas.Bool.{false≢true}
 use Rattle.xdr_tokens.proofs.Options.{some_is, some_is_not, bind_some}
 use Rattle.xdr_grammar.specs.Outline.{nothing}
 use Rattle.xdr_grammar.specs.Private.Reading.{definitions_at}
@@ -40,16 +41,28 @@ reports text d f (Ok v) means found =
     ap f (some_is (declared_of v) d (sym (reported_is text (declared_of v) found) ∙ reported_is text d means))
 reports text d f (Err e) means found = tt
 
-pub refuses : (text : List ℕ) (r : Result Made LangFault) → reported text ≡ None
-    → IfOk r (λ v. Means text (declared_of v)) → is_ok r ≡ false
-refuses text (Ok v) none found =
-    absurd (some_is_not (declared_of v) (sym (reported_is text (declared_of v) found) ∙ none))
-refuses text (Err e) none found = refl
+-- a text that is read means something
+pub read_means : (text : List ℕ) (r : Result Made LangFault) → IfOk r (λ v. Means text (declared_of v))
+    → is_ok r ≡ true → (d : Declared) × Means text d
+read_means text (Ok v) found is = (declared_of v, found)
+read_means text (Err e) found is = absurd (false≢true is)
 
-pub too_long : (text : List ℕ) (r : Result Made LangFault) → 262144 < length text
-    → IfOk r (λ v. Means text (declared_of v)) → is_ok r ≡ false
-too_long text (Ok v) lt found = absurd (omega (arith, lt, found.short))
-too_long text (Err e) lt found = refl
+-- one that means nothing is not
+pub not_read : (text : List ℕ) (b : Bool) → reported text ≡ None → (b ≡ true → (d : Declared) × Means text d)
+    → b ≡ false
+not_read text false none means = refl
+not_read text true none means =
+    let read = means refl in
+    absurd (some_is_not read.0 (sym (reported_is text read.0 read.1) ∙ none))
+
+-- nor is one that is too long
+pub not_short : (text : List ℕ) (b : Bool) → 262144 < length text → (b ≡ true → (d : Declared) × Means text d)
+    → b ≡ false
+not_short text false lt means = refl
+not_short text true lt means =
+    let read = means refl in
+    let short = read.1.short in
+    absurd (omega (arith, lt, short))
 
 -- a text that is reported means it, where its kinds are a schema
 pub reported_means : (text : List ℕ) (d : Declared) → reported text ≡ Some d → length text ≤ 262144

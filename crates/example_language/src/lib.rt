@@ -1,13 +1,20 @@
-//! Worked examples of the XDR language for users of the libraries, each proved from the contracts alone.
+//! Worked examples of the XDR language and of rpcgen's dialect for users of the libraries, each proved from the
+//! contracts alone.
 //!
 //! - `token_lists`: what `tokens` makes of a text. `outlines`: what `read_outline` makes of tokens.
 //! - `texts`: what `read` gives for texts that mean something. `refused`: texts that it gives nothing for. `lookups`:
 //!   look-ups in what a text declares.
+//! - Of the dialect `lines`: texts without their lines of `%` and `#`; `rewritings`: tokens in place of tokens;
+//!   `aliases`: numbers in place of names; `files`: several texts as one.
 #![tactic(auto)]
 
+pub mod aliases;
+pub mod files;
+pub mod lines;
 mod lookups;
 mod outlines;
 mod refused;
+pub mod rewritings;
 mod texts;
 mod token_lists;
 
@@ -29,5 +36,6 @@ pub use texts::{
     string_argument, text_without_the_words, two_meanings,
 };
 pub use token_lists::{
-    comment_with_a_star, keyword_and_names, least_number, long_and_a_longer_name, no_token_of_a_bar,
+    comment_with_a_star, keyword_and_names, keyword_before_a_tab, least_number,
+    long_and_a_longer_name, no_token_of_a_bar,
 };

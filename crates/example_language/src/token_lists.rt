@@ -24,6 +24,14 @@ pub fn long_and_a_longer_name(alloc: Global) -> Result<Vec<Token<'static>>, Faul
     tokens(alloc, b"long longer")
 }
 
+/// A tab parts words, `switch` is a keyword, and `z` a letter as any other.
+pub fn keyword_before_a_tab(alloc: Global) -> Result<Vec<Token<'static>>, Fault>
+    ensures found { IfOk result (λ v. lexemes v.items ≡ Word word.Switch ∷ Name (codes "z") ∷ []) }
+    ensures taken { IfErr result (λ e. e ≡ Fault.NoMemory) }
+{
+    tokens(alloc, b"switch\tz")
+}
+
 /// A comment goes to the first star that a slash follows; the star that begins it does not serve twice.
 pub fn comment_with_a_star(alloc: Global) -> Result<Vec<Token<'static>>, Fault>
     ensures found { IfOk result (λ v. lexemes v.items ≡ Name (codes "b") ∷ []) }

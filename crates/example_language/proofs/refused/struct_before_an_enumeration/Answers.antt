@@ -1,7 +1,6 @@
-use Rattle.std.proofs.Common.{◌∙◌}
-use Rattle.example_language.proofs.Reporting.{refuses}
+use Rattle.example_language.proofs.Reporting.{not_read}
 use Rattle.example_language.proofs.Meanings.{meanings}
 use Rattle.example_language.proofs.refused.struct_before_an_enumeration.Goals as goal
 
 pub returns : goal.returns
-returns c = c.is_ok.ensures.value ∙ refuses _ c.read.result meanings.struct_before_an_enumeration c.read.ensures.found
+returns c = not_read _ c.is_read.result meanings.struct_before_an_enumeration c.is_read.ensures

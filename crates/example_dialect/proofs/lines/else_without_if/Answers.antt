@@ -1,9 +1,0 @@
-use Rattle.example_dialect.proofs.Answering.{refused, placed_fault}
-use Rattle.example_dialect.proofs.Texts.{texts}
-use Rattle.example_dialect.proofs.lines.else_without_if.Goals as goal
-
-pub returns-clause-refused : goal.returns-clause-refused
-returns-clause-refused c = refused _ _ c.plain_text.result texts.else_without_if c.plain_text.ensures
-
-pub returns-clause-place : goal.returns-clause-place
-returns-clause-place c = placed_fault _ _ c.plain_text.result texts.else_without_if c.plain_text.ensures
