@@ -103,9 +103,10 @@ _oncrpc() {
         --bind) : ;;
         --connections) : ;;
         --idle) : ;;
+        --local) : ;;
         --count) : ;;
         --datagrams) : ;;
-        *) mapfile -t COMPREPLY < <(compgen -W "--port --bind --connections --idle --verbose --count --datagrams --help" -- "$word") ;;
+        *) mapfile -t COMPREPLY < <(compgen -W "--port --bind --connections --idle --verbose --insecure --local --count --datagrams --help" -- "$word") ;;
         esac
         ;;
     esac

@@ -85,6 +85,8 @@ complete -c oncrpc -n '__fish_seen_subcommand_from serve; and not __fish_seen_su
 complete -c oncrpc -n '__fish_seen_subcommand_from serve; and not __fish_seen_subcommand_from help' -l connections -x -d 'How many connections may be open at a time, 1 to 1048576'
 complete -c oncrpc -n '__fish_seen_subcommand_from serve; and not __fish_seen_subcommand_from help' -l idle -x -d 'How long a connection may make no call and take no reply, 1 to 4294967295 seconds'
 complete -c oncrpc -n '__fish_seen_subcommand_from serve; and not __fish_seen_subcommand_from help' -l verbose -d 'Print a line on standard error for each connection that has ended'
+complete -c oncrpc -n '__fish_seen_subcommand_from serve; and not __fish_seen_subcommand_from help' -l insecure -d 'Take SET and UNSET of callers of other hosts, too'
+complete -c oncrpc -n '__fish_seen_subcommand_from serve; and not __fish_seen_subcommand_from help' -l local -x -d 'Serve a Unix socket at PATH, too, for this user and the superuser alone'
 complete -c oncrpc -n '__fish_seen_subcommand_from serve; and not __fish_seen_subcommand_from help' -l count -x -d 'Serve C connections on 127.0.0.1, one after another, and end; 0 to 4294967295'
 complete -c oncrpc -n '__fish_seen_subcommand_from serve; and not __fish_seen_subcommand_from help' -l datagrams -x -d 'How many datagrams are answered after C connections, 0 to 4294967295, else none'
 complete -c oncrpc -n '__fish_seen_subcommand_from serve; and not __fish_seen_subcommand_from help' -s h -l help -d 'Print help'

@@ -58,10 +58,10 @@ SESSIONS = [
     ]),
     (1, 32, [
         ("open", "open 0"), (take(0, marked(SET)), answered(60, IS_TRUE)),
-        (take(0, marked(SET)), answered(60, IS_FALSE)), (take(0, marked(SET)), "full"), ("write:0:31", wrote(SENT[:31])),
+        (take(0, marked(SET)), answered(60, IS_TRUE)), (take(0, marked(SET)), "full"), ("write:0:31", wrote(SENT[:31])),
         (take(0, marked(GETPORT)), "full"), ("write:0:1", wrote(SENT[31:])),
         (take(0, marked(GETPORT)), answered(60, AT_2049)),
-        ("write:0:99", wrote(marked(IS_FALSE) + marked(AT_2049))),
+        ("write:0:99", wrote(marked(IS_TRUE) + marked(AT_2049))),
     ]),
     # A fault is answered for ever, keeps the output, and leaves the rows and the other connections as they are.
     (3, 1000, [

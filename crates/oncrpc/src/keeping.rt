@@ -5,10 +5,12 @@ use oncrpc_answers::{Failure, report};
 use oncrpc_service::report_socket;
 use oncrpc_sessions::{Bounds, Sockets};
 use oncrpc_words::KeepTask;
+use registry_rows::PROGRAM;
 use registry_sessions::SessionTable;
-use rpc_directory::Directory;
+use rpc_directory::{Directory, NoMemory};
 use std::alloc::Global;
 use std::collections::hash_map::RandomState;
+use std::hash::BuildHasher;
 use std::io;
 use std::net::{IpAddr, SocketAddr};
 use std::time::Duration;
@@ -36,6 +38,9 @@ pub fn keep<O: Sink, F: Sink>(
         Ok(directory) => directory,
         Err(_) => return report(Failure::NoMemory, faults),
     };
+    if set_local(alloc, what, &mut directory).is_err() {
+        return report(Failure::NoMemory, faults);
+    }
     if let Err(failure) = print_begun(alloc, what, sockets.port(), output) {
         return report(failure, faults);
     }
@@ -49,17 +54,40 @@ pub fn keep<O: Sink, F: Sink>(
     0
 }
 
-// Both sockets, at the address that is asked for.
+// The registry's own rows over a Unix socket, where one is asked for: versions 3 and 4, as rpcbind has them.
+fn set_local<S: BuildHasher>(
+    alloc: Global,
+    what: &KeepTask,
+    directory: &mut Directory<S>,
+) -> Result<(), NoMemory> {
+    if let Some(path) = &what.local {
+        for vers in 3..=4 {
+            directory.set(
+                alloc,
+                PROGRAM,
+                vers,
+                b"local",
+                path.as_bytes(),
+                b"superuser",
+            )?;
+        }
+    }
+    Ok(())
+}
+
+// The sockets, at the address and the path that are asked for.
 fn bind(rt: &HostRuntime, what: &KeepTask) -> io::Result<Sockets> {
     let address = SocketAddr::new(IpAddr::V4(what.address), what.port);
     let bounds = Bounds {
         connections: what.connections as usize,
         idle: Duration::from_secs(what.idle as u64),
+        trusts_remote: what.insecure,
     };
-    Sockets::bind(rt, rt.alloc(), address, bounds, what.verbose)
+    let local = what.local.as_deref();
+    Sockets::bind(rt, rt.alloc(), address, local, bounds, what.verbose)
 }
 
-// Prints at which address and port both listen.
+// Prints at which address and port both listen, and at which path.
 fn print_begun<O: Sink>(
     alloc: Global,
     what: &KeepTask,
@@ -68,6 +96,10 @@ fn print_begun<O: Sink>(
 ) -> Result<(), Failure> {
     let line = format!(in alloc; "listening on {} {port}\n", what.address)?;
     write_whole(output, line.as_bytes())?;
+    if let Some(path) = &what.local {
+        let line = format!(in alloc; "listening on {path}\n")?;
+        write_whole(output, line.as_bytes())?;
+    }
     Ok(())
 }
 

@@ -1,6 +1,7 @@
 //! The datagrams of a registry, over a socket that does not block.
 ghost use Rattle.oncrpc_sessions.specs.Loops.{Goes};
 
+use crate::whence::caller_at;
 use mio::net::UdpSocket;
 use mio::{Interest, Registry, Token};
 use registry_answer::Appended;
@@ -23,6 +24,9 @@ const MOST_DATAGRAM: usize = 65536;
 #[derive(Drop)]
 pub struct Datagrams {
     socket: UdpSocket,
+    /// The address at which it is bound.
+    bound: SocketAddr,
+    trusts_remote: bool,
     may_receive: bool,
     datagram: Vec<u8>,
     reply: Vec<u8>,
@@ -30,11 +34,18 @@ pub struct Datagrams {
 
 impl Datagrams {
     /// Binds a socket at this address.
-    pub fn bind<R: Net>(rt: &R, alloc: Global, address: SocketAddr) -> io::Result<Datagrams> {
+    pub fn bind<R: Net>(
+        rt: &R,
+        alloc: Global,
+        address: SocketAddr,
+        trusts_remote: bool,
+    ) -> io::Result<Datagrams> {
         let datagram = Vec::from_elem(alloc, 0, MOST_DATAGRAM)?;
         let socket = UdpSocket::bind(rt, address)?;
         Ok(Datagrams {
             socket,
+            bound: address,
+            trusts_remote,
             may_receive: true,
             datagram,
             reply: Vec::new(alloc),
@@ -79,7 +90,8 @@ impl Datagrams {
                 return;
             }
         };
-        let appended = table.receive(&self.datagram[..n], directory, &mut self.reply);
+        let caller = caller_at(sender, Some(self.bound), self.trusts_remote);
+        let appended = table.receive(&self.datagram[..n], caller, directory, &mut self.reply);
         self.send(appended, sender);
     }
 

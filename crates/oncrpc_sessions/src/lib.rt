@@ -1,15 +1,22 @@
-//! The registry for many clients at once, over readiness of sockets: TCP and UDP on one port of one address.
+//! The registry for many clients at once, over readiness of sockets: TCP and UDP on one port of one address, and a Unix
+//! socket.
 //!
 //! - `rounds` waits and accepts; `datagrams` answers those that came; `clients` gives each client its turns, and lets
 //!   those go that are done.
-//! - `client` is one client's socket beside its session; `ending` what became of it.
+//! - `listeners` accepts connections, also at the path that `local` makes a socket at; `whence` says who calls.
+//! - `client` is one client's socket, a `stream`, beside its session; `ending` what became of it.
 #![tactic(auto)]
 
 mod client;
 mod clients;
 mod datagrams;
 mod ending;
+mod listeners;
+mod local;
 mod rounds;
+mod stream;
+mod whence;
 
 pub use ending::{Ending, Why};
 pub use rounds::{Bounds, Sockets};
+pub use whence::Whence;

@@ -78,9 +78,17 @@ What was wrong with a connection ends that connection alone. N in 'at N' is the
 count of the connection's bytes before the place.
 
 The registry begins with its own rows, versions 2, 3 and 4 of program 100000 over
-tcp and udp, and is gone when the program ends. Whoever reaches ADDR can add rows
-and remove them. An ADDR that is not this host's, or a port that is taken over TCP
-or UDP, is the line 'socket fault' on standard error.
+tcp and udp, and is gone when the program ends. Without --insecure a SET or UNSET
+of a caller of another host is AUTH_ERROR 5, AUTH_TOOWEAK. With --count whoever
+reaches the port can add rows and remove them. An ADDR that is not this host's,
+or a port that is taken over TCP or UDP, is the line 'socket fault' on standard
+error.
+
+With --local the line 'listening on PATH' comes second, and rows of versions 3 and
+4 over local are there. PATH gets mode 0600. A socket there that nobody answers at
+is replaced; any other file, or a folder that cannot be written, is the line
+'socket fault'. PEER of its connections is 'local'. rpcinfo without a host, and
+what registers by libtirpc, want /run/rpcbind.sock.
 
 Exit status:
   0  with --count: all connections were served, and all datagrams after them

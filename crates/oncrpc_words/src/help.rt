@@ -70,6 +70,12 @@ pub const IDLE: &str =
 /// The option for a line of each connection.
 pub const VERBOSE: &str = "Print a line on standard error for each connection that has ended";
 
+/// The option for changes by callers of other hosts.
+pub const INSECURE: &str = "Take SET and UNSET of callers of other hosts, too";
+
+/// The option for a Unix socket.
+pub const LOCAL: &str = "Serve a Unix socket at PATH, too, for this user and the superuser alone";
+
 /// The option for how many connections are served.
 pub const COUNT: &str =
     "Serve C connections on 127.0.0.1, one after another, and end; 0 to 4294967295";

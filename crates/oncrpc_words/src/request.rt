@@ -129,4 +129,8 @@ pub struct KeepTask {
     pub idle: u32,
     /// Whether each connection has a line on standard error once it has ended.
     pub verbose: bool,
+    /// Callers of other hosts may change rows.
+    pub insecure: bool,
+    /// The path of a Unix socket to listen at, too.
+    pub local: Option<String>,
 }

@@ -132,7 +132,7 @@ pub const OF_PING: [Word; 9] = [
 ];
 
 /// The words of `serve`.
-pub const OF_SERVE: [Word; 7] = [
+pub const OF_SERVE: [Word; 9] = [
     Word::Required("port", "N", help::PORT, Taken::Port),
     Word::Without(
         "bind",
@@ -159,6 +159,8 @@ pub const OF_SERVE: [Word; 7] = [
         "count",
     ),
     Word::FlagWithout("verbose", help::VERBOSE, "count"),
+    Word::FlagWithout("insecure", help::INSECURE, "count"),
+    Word::Without("local", "PATH", help::LOCAL, Taken::Text, &[], "count"),
     Word::Optional("count", "C", help::COUNT, Taken::Number, &[]),
     Word::Beside("datagrams", "D", help::DATAGRAMS, Taken::Number, "count"),
 ];

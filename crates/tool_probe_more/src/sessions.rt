@@ -8,14 +8,22 @@ ghost use Rattle.std.specs.Option.{ForSome};
 ghost use Rattle.registry_sessions.specs.Progress.{session_at};
 ghost use Rattle.registry_sessions.specs.Represents.{output_of};
 
-use registry_answer::Appended;
-use registry_sessions::{OpenFault, Session, SessionFault, SessionTable, Taken};
+use registry_answer::{Appended, Transport};
+use registry_callers::{Caller, Peer};
+use registry_sessions::{OpenFault, Origin, Session, SessionFault, SessionTable, Taken};
 use rpc_record::RecordFault;
 use std::env::Env;
 use test_growths::held;
 use test_lines::case::{Case, allow, digits};
 use test_lines::reported::Report;
 use test_lines::served::{Registry, after_word, prepared};
+
+// Who calls: someone of this host, of whose address nothing is known.
+const CALLER: Caller = Caller {
+    peer: Peer::Local,
+    host: None,
+    trusts_remote: false,
+};
 
 // An event: its name, the number of its connection, and what else stands there.
 #[derive(Clone, Copy)]
@@ -106,7 +114,10 @@ fn taken_words(out: &mut Report, taken: Result<Taken, SessionFault>, reply: &[u8
 
 fn opened(out: &mut Report, rt: &impl Env, case: &Case<'_>, serving: &mut Serving) {
     let begun = begun(rt, case, serving);
-    let answer = serving.table.open();
+    let answer = serving.table.open(Origin {
+        caller: CALLER,
+        transport: Transport::Tcp,
+    });
     counted(rt, serving, begun);
     match answer {
         Ok(number) => out.number("open ", number),
@@ -211,9 +222,12 @@ fn closed(
 fn came(out: &mut Report, rt: &impl Env, case: &Case<'_>, serving: &mut Serving, datagram: &str) {
     let datagram = digits(case.alloc, datagram);
     let begun = begun(rt, case, serving);
-    let answer = serving
-        .table
-        .receive(&datagram, &mut serving.directory, &mut serving.buffer);
+    let answer = serving.table.receive(
+        &datagram,
+        CALLER,
+        &mut serving.directory,
+        &mut serving.buffer,
+    );
     counted(rt, serving, begun);
     match answer {
         Appended::Nothing => out.text("no reply"),

@@ -485,6 +485,8 @@ fn asks_keep(alloc: Global, words: Words, kept: Kept) -> Result<bool, AllocError
         connections,
         idle,
         verbose,
+        insecure: false,
+        local: None,
     };
     match read(alloc, words)? {
         Ok(Request::Keep(task)) => Ok(task == asked),
@@ -500,8 +502,47 @@ fn registries_are_kept(rt: HostRuntime) -> Result<(), AllocError> {
     Ok(())
 }
 
+// Words, and what is asked of a registry that is kept: whether callers of other hosts may change rows, and the path of
+// its Unix socket.
+const REACHED: [(Words, bool, Option<&str>); 3] = [
+    (&["serve", "--port=1", "--insecure"], true, None),
+    (
+        &["serve", "--port=1", "--local", "/run/rpcbind.sock"],
+        false,
+        Some("/run/rpcbind.sock"),
+    ),
+    (
+        &["serve", "--local=a b", "--insecure", "--port=1"],
+        true,
+        Some("a b"),
+    ),
+];
+
+fn is_reached(
+    alloc: Global,
+    words: Words,
+    insecure: bool,
+    local: Option<&str>,
+) -> Result<bool, AllocError> {
+    match read(alloc, words)? {
+        Ok(Request::Keep(task)) => Ok(task.insecure == insecure && task.local.as_deref() == local),
+        _ => Ok(false),
+    }
+}
+
+#[test]
+fn registries_are_reached(rt: HostRuntime) -> Result<(), AllocError> {
+    for (words, insecure, local) in &REACHED {
+        assert!(rt;
+            is_reached(rt.alloc(), words, *insecure, *local)?,
+            "{words:?}"
+        );
+    }
+    Ok(())
+}
+
 // Words that give no task, and the status.
-const REFUSED: [(Words, u8); 83] = [
+const REFUSED: [(Words, u8); 85] = [
     (&["check"], 2),
     (&["nope"], 2),
     (&["show"], 2),
@@ -570,6 +611,8 @@ const REFUSED: [(Words, u8); 83] = [
     (&["serve", "--port=1", "--count=1", "--connections=9"], 2),
     (&["serve", "--port=1", "--count=1", "--idle=9"], 2),
     (&["serve", "--port=1", "--count=1", "--verbose"], 2),
+    (&["serve", "--port=1", "--count=1", "--insecure"], 2),
+    (&["serve", "--port=1", "--count=1", "--local=a"], 2),
     (
         &[
             "serve",

@@ -140,7 +140,7 @@ const OF_PING: [&str; 5] = [
     "\n  0  each call was answered\n",
 ];
 
-const OF_SERVE: [&str; 20] = [
+const OF_SERVE: [&str; 22] = [
     "--port <N>",
     "0 takes a free one",
     "--bind <ADDR>",
@@ -150,6 +150,8 @@ const OF_SERVE: [&str; 20] = [
     "--idle <SECONDS>",
     "[default: 60]",
     "--verbose ",
+    "--insecure ",
+    "--local <PATH>",
     "--count <C>",
     "--datagrams <D>",
     "listening on ADDR PORT",

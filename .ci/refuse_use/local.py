@@ -1,0 +1,199 @@
+"""Rows of 'oncrpc serve --local PATH': who can call at the Unix socket, what is answered there, and what becomes of a
+file that stands at PATH.
+
+Expected bytes are those of RFC 5531 section 9 and of RFC 1833 section 2.2.1. The netid of a local socket is 'local', as
+/etc/netconfig of libtirpc has it.
+"""
+import os
+import signal
+import socket
+import stat
+import struct
+import subprocess
+import sys
+import tempfile
+
+sys.dont_write_bytecode = True
+sys.path.insert(0, os.path.dirname(os.path.dirname(os.path.realpath(__file__))))
+
+from refuse_use.keeping import HOST, WAIT, Kept, call, is_answered, marked, read, replied
+
+NOBODY = 65534
+# A user's call is that of AUTH_SYS: its uid, and nothing else.
+AS_7 = (1, 20, 0, 0, 7, 0, 0)
+
+
+def text(content):
+    """A string: its length, its bytes, and zeros."""
+    return struct.pack(">I", len(content)) + content + bytes(-len(content) % 4)
+
+
+def rpcb(procedure, *row, cred=(0, 0)):
+    """A call of version 4 with xid 7: program, version, netid, address and owner."""
+    prog, vers, *texts = row
+    words = (7, 0, 2, 100000, 4, procedure, *cred, 0, 0, prog, vers)
+    return struct.pack(f">{len(words)}I", *words) + b"".join(map(text, texts))
+
+
+def reply(results):
+    return marked(struct.pack(">6I", 7, 1, 0, 0, 0, 0) + results)
+
+
+TRUE = reply(struct.pack(">I", 1))
+SET = rpcb(1, 70000, 1, b"local", b"/run/asked", b"7", cred=AS_7)
+GETADDR_OWN, GETADDR = rpcb(3, 100000, 4, b"", b"", b""), rpcb(3, 70000, 1, b"", b"", b"")
+
+
+def at_path(path):
+    """A client of the socket at a path."""
+    made = socket.socket(socket.AF_UNIX)
+    made.settimeout(WAIT)
+    made.connect(path)
+    return made
+
+
+def says(made, message, wanted):
+    """Whether a call over a connection gets this reply."""
+    made.sendall(marked(message))
+    return read(made, len(wanted)) == wanted
+
+
+def second_line(kept):
+    return kept.process.stdout.readline()
+
+
+def is_its_own(path):
+    """Whether a socket of this user stands at a path that nobody else can call, and nothing else beside it."""
+    told = os.lstat(path)
+    well = stat.S_ISSOCK(told.st_mode) and stat.S_IMODE(told.st_mode) == 0o600 and told.st_uid == os.geteuid()
+    return well and os.listdir(os.path.dirname(path)) == [os.path.basename(path)]
+
+
+def as_another(path):
+    """What another user gets who connects: the name of the fault. It is the superuser who can ask."""
+    child = os.fork()
+    if child == 0:
+        os.setgroups([])
+        os.setgid(NOBODY)
+        os.setuid(NOBODY)
+        try:
+            at_path(path)
+        except PermissionError:
+            os._exit(7)
+        os._exit(0)
+    return os.waitstatus_to_exitcode(os.waitpid(child, 0)[1])
+
+
+def served(program, folder):
+    """Whom the socket serves, and with what."""
+    path = f"{folder}/socket"
+    os.umask(0)
+    with Kept(program, "--verbose", "--local", path) as kept:
+        said = second_line(kept)
+        yield "the second line", said == f"listening on {path}\n".encode(), said
+        yield "mode 0600 whatever the umask, and no other file", is_its_own(path), os.listdir(folder)
+        with at_path(path) as made, kept.client() as other:
+            yield "NULL", is_answered(made, 3), None
+            well = says(made, GETADDR_OWN, reply(text(path.encode())))
+            yield "the registry's own row over local", well, None
+            yield "SET", says(made, SET, TRUE), None
+            yield "and again", says(made, SET, TRUE), None
+            yield "GETADDR is over the caller's transport", says(made, GETADDR, reply(text(b"/run/asked"))), None
+            yield "and not over another", says(other, GETADDR, reply(text(b""))), None
+            made.shutdown(socket.SHUT_WR)
+            read(made, 1)
+        said = kept.lines(1)
+        yield "the line of its connection", said == b"connection 1 from local: 5 records, 5 replies\n", said
+        rows = subprocess.run([program, "info", HOST, str(kept.port)], check=False, capture_output=True, text=True)
+        wanted = [f"100000 {vers} local {path} superuser" for vers in (3, 4)] + ["70000 1 local /run/asked 7"]
+        yield "its rows", rows.stdout.splitlines()[-3:] == wanted, rows
+        if os.geteuid() == 0:
+            os.chmod(folder, 0o755)
+            said = as_another(path)
+            yield "another user cannot connect", said == 7, said
+
+
+def refused(program, path):
+    """What a program says that is asked for a socket at a path."""
+    words = [program, "serve", "--port", "0", "--local", path]
+    try:
+        ran = subprocess.run(words, check=False, capture_output=True, timeout=WAIT)
+    except subprocess.TimeoutExpired as it:
+        return it.stdout
+    return ran.returncode, ran.stdout, ran.stderr
+
+
+FAULT = 3, b"", b"socket fault\n"
+
+
+def in_the_way(program, folder):
+    """What stands at the path: a socket that is served, one that is not any more, a file, a link, a folder."""
+    path = f"{folder}/socket"
+    with Kept(program, "--local", path) as kept:
+        second_line(kept)
+        said = refused(program, path)
+        with at_path(path) as made:
+            yield "a socket that is served stays", said == FAULT and is_answered(made, 1), said
+        kept.end(signal.SIGKILL)
+    left = os.path.exists(path)
+    with Kept(program, "--local", path) as kept:
+        second_line(kept)
+        with at_path(path) as made:
+            yield "one that nobody answers at is replaced", left and is_answered(made, 1) and is_its_own(path), left
+    os.remove(path)
+    with open(path, "wb") as it:
+        it.write(b"mine")
+    said = refused(program, path)
+    with open(path, "rb") as it:
+        yield "a file stays", said == FAULT and it.read() == b"mine", said
+    os.remove(path)
+    os.symlink("elsewhere", path)
+    said = refused(program, path)
+    yield "a link stays", said == FAULT and os.readlink(path) == "elsewhere", said
+    os.remove(path)
+    os.mkdir(path)
+    said = refused(program, path)
+    yield "a folder stays", said == FAULT and os.listdir(folder) == ["socket"], said
+    os.rmdir(path)
+    for name, wrong in (("no folder", f"{folder}/none/socket"), ("too long", f"{folder}/{'a' * 108}"), ("empty", "")):
+        said = refused(program, wrong)
+        yield name, said == FAULT and os.listdir(folder) == [], (said, os.listdir(folder))
+    os.mkdir(f"{path}.0")
+    with Kept(program, "--local", path) as kept:
+        second_line(kept)
+        with at_path(path) as made:
+            well = is_answered(made, 1) and sorted(os.listdir(folder)) == ["socket", "socket.0"]
+            yield "a folder of the first name that is tried", well, os.listdir(folder)
+
+
+def growths(program, heap, folder):
+    """With each growth refused it ends before it listens and leaves nothing, or it answers."""
+    path, wrong, listened = f"{folder}/socket", [], 0
+    for number in range(1, 60):
+        with Kept(program, "--local", path, LD_PRELOAD=heap, REFUSE_GROWTH=str(number)) as kept:
+            second = second_line(kept) if kept.port else b""
+            if not second:
+                ended = kept.process.wait(WAIT), kept.process.stderr.read()
+                if ended not in ((3, b"socket fault\n"), (4, b"out of memory\n")):
+                    wrong.append((number, ended))
+                continue
+            listened += 1
+            with at_path(path) as first, at_path(path) as made:
+                if not is_answered(first, 1) and not is_answered(made, 2):
+                    wrong.append((number, "no answer"))
+        kept.process.wait()
+        if [it for it in os.listdir(folder) if it != "socket"]:
+            wrong.append((number, os.listdir(folder)))
+    yield f"each growth refused, {listened} times behind the lines", not wrong, wrong[:3]
+
+
+def local_rows(program, heap):
+    """The rows, each whether it is as it should be."""
+    some = [served, in_the_way]
+    for rows in [*some, lambda it, folder: growths(it, heap, folder)] if heap else some:
+        umask = os.umask(0o022)
+        with tempfile.TemporaryDirectory() as folder:
+            for name, is_well, told in rows(program, folder):
+                print(f"oncrpc serve --local, {name}: {'as it should' if is_well else told}", flush=True)
+                yield bool(is_well)
+        os.umask(umask)
