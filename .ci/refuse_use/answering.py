@@ -126,11 +126,18 @@ def slow(server, message, datagram):
 
 def greedy(server, message, datagram):
     """More than a reply may have."""
-    yield words(0x80000000 | 16777217) + bytes(64) if not datagram else bytes(60000)
+    yield words(0x80000000 | 16777217) + bytes(64) if not datagram else words(XID) + bytes(59996)
 
 
 def garbage(server, message, datagram):
-    yield b"HTTP/1.1 400 Bad Request\r\n\r\n"
+    """Bytes that are no message, over UDP behind the xid of the call."""
+    yield (words(XID) if datagram else b"") + b"HTTP/1.1 400 Bad Request\r\n\r\n"
+
+
+def straying(server, message, datagram):
+    """Datagrams that are no message and begin with no xid of the call: bytes, a reply that is cut, one with flavors of
+    too many bytes."""
+    yield from [b"HTTP/1.1 400 Bad Request\r\n\r\n", success(xid=XID + 1)[:-1], words(XID - 1, 1, 0, 0, 401)]
 
 
 def flooding(server, message, datagram):
@@ -149,7 +156,7 @@ def dripping(server, message, datagram):
 
 
 def gone(server, message, datagram):
-    return [b"nothing"] if datagram else []
+    return [words(XID)] if datagram else []
 
 
 def other(server, message, datagram):
@@ -163,7 +170,7 @@ def late(server, message, datagram):
     if not datagram:
         time.sleep(1)
         return [marked(success())]
-    others = [success(xid=XID + 1), success(xid=0)]
+    others = [success(xid=XID + 1), success(xid=0), words(XID + 1), b"HTTP/1.1 400 Bad Request"]
     return [*others, success()] if len(server.calls) == 3 else others
 
 

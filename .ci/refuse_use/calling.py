@@ -22,6 +22,7 @@ from refuse_use.answering import (
     replying,
     silent,
     slow,
+    straying,
     trickle,
 )
 from refuse_use.called import ASKED, DECLARED, NOBODY, ONE_PING, PINGED, UNASKED, XID
@@ -51,6 +52,7 @@ HINDERED = [
     (gone, "--udp", 1, b"refused Truncated\n", 0, 2),
     (other, "", 1, b"refused WrongXid %d\n" % (XID + 1), 0, 2),
     (other, "--udp", 3, NO_ANSWER, 1.9, 4),
+    (straying, "--udp", 3, NO_ANSWER, 1.9, 4),
 ]
 
 
