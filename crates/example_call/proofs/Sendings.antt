@@ -75,8 +75,8 @@ not_two (Some rest) m n o ns r = apart r
 
 -- one that begins with another xid is what no answer speaks of
 answer_other : (xid : ℕ) (left' : Reported) (m : List ℕ) (w : Wanted) (answer : Result Reply ClientFault)
-    (text : List ℕ) → IsOther xid m → IsAnswer xid (Some (m ∷ [])) left' answer → Shows w answer text ⊎ Refuses w answer text
-    → ⊥
+    (text : List ℕ) → IsOther xid m → IsAnswer xid (Some (m ∷ [])) left' answer
+    → Shows w answer text ⊎ Refuses w answer text → ⊥
 answer_other xid left' m w (Ok reply) text o (n, r, says) t =
     r.1 (subst (λ (k : List ℕ). IsOther xid k) (first_left left' m n [] r.0) o)
 answer_other xid left' m w (Err (fault.Reply f)) text o (n, r, says) t =
