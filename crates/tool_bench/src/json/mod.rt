@@ -1,21 +1,15 @@
-//! The calls of JSON on one value, again and again, for measurements: `tool_json WORK NAME TIMES`. WORK is `bytes` or
-//! `value`, the JSON of a value by its bytes or by its tree; or `read`, the value that a JSON text spells, or `back`,
-//! its bytes. NAME is the name of a type. Standard input is four bytes with the length of a text of declarations, the
-//! text, and the bytes of the value, or the JSON. Without words it does nothing.
+//! The calls of JSON on one value, again and again: `json WORK NAME TIMES`. WORK is `bytes` or `value`, the JSON of a
+//! value by its bytes or by its tree; or `read`, the value that a JSON text spells, or `back`, its bytes. NAME is the
+//! name of a type. Standard input is four bytes with the length of a text of declarations, the text, and the bytes of
+//! the value, or the JSON.
 //!
 //! A line is printed: how many bytes all TIMES texts or encodings have together, of `read` how many values were read.
 //! A JSON text that is refused counts 1,000,000,000,000 and its place. `bench/run json` times it.
-//!
-//! - `calls`: the works.
-#![tactic(auto)]
-
 mod calls;
 
 use calls::{Given, outcomes};
 use std::alloc::Global;
-use std::env;
 use std::io::{self, Read, Write};
-use std::process::ExitCode;
 use xdr_lang::read;
 use xdr_types::Limits;
 
@@ -46,11 +40,8 @@ fn answer(alloc: Global, words: &[String], input: &[u8]) -> Option<u64> {
     outcomes(alloc, work.as_str(), &given, times)
 }
 
-// Does what the words ask for, and tells whether it was done.
-fn does(rt: &HostRuntime, words: &[String]) -> bool {
-    if words.is_empty() {
-        return true;
-    }
+/// Does the work by the words WORK, NAME and TIMES, prints its line, and says whether that was done.
+pub fn work(rt: &HostRuntime, words: &[String]) -> bool {
     let alloc = rt.alloc();
     match answer(alloc, words, &input(rt)) {
         Some(sum) => match format!(in alloc; "{sum}\n") {
@@ -58,16 +49,5 @@ fn does(rt: &HostRuntime, words: &[String]) -> bool {
             Err(_) => false,
         },
         None => false,
-    }
-}
-
-fn main(rt: HostRuntime) -> ExitCode {
-    let words = match env::args(&rt) {
-        Ok(args) => args.skip(1).collect::<Vec<String>>(rt.alloc()),
-        Err(_) => return ExitCode::from(2),
-    };
-    match words {
-        Ok(words) if does(&rt, words.as_slice()) => ExitCode::from(0),
-        _ => ExitCode::from(1),
     }
 }
