@@ -29,7 +29,7 @@ struct source {
     void (*ready)(struct source *);
     uint32_t wanted;
     bool ends;   /* nothing more is read: it is closed once its output was written */
-    time_t last; /* when bytes of it were last taken or written */
+    time_t last; /* when a record of it was last answered, or output written */
     oncrpc_session session;
 };
 
@@ -42,7 +42,7 @@ static oncrpc_registry registry = ONCRPC_NONE;
 static int add(struct source *source, int fd, void (*ready)(struct source *)) {
     struct epoll_event event = {.events = EPOLLIN, .data.ptr = source};
     *source = (struct source){.fd = fd, .ready = ready, .wanted = EPOLLIN, .last = now.tv_sec, .session = ONCRPC_NONE};
-    return epoll_ctl(waiting, EPOLL_CTL_ADD, fd, &event);
+    return fd < 0 ? -1 : epoll_ctl(waiting, EPOLL_CTL_ADD, fd, &event);
 }
 
 static void want(struct source *source, uint32_t events) {
@@ -87,7 +87,7 @@ static void end_peer(struct source *peer) {
     want_peers(true);
 }
 
-/* Feeds a piece of what was received, and leaves in the socket what is not taken. Says whether more may come. */
+/* Feeds a piece of what was received, and leaves in the socket what waits for output. Says whether more may come. */
 static bool read_piece(struct source *peer) {
     static uint8_t piece[4096];
     size_t at = 0;
@@ -99,12 +99,11 @@ static bool read_piece(struct source *peer) {
     uint32_t status;
     while ((status = oncrpc_session_feed(&peer->session, &registry, piece + at, (size_t)count - at, &outcome))
         == ONCRPC_OK) {
-        at += outcome.at;
+        at += outcome.at, peer->last = now.tv_sec;
     }
-    at = status == ONCRPC_MORE_WANTED ? (size_t)count : at;
-    peer->last = at ? now.tv_sec : peer->last;
-    return (status == ONCRPC_MORE_WANTED || status == ONCRPC_OUTPUT_WAITS)
-        && (!at || recv(peer->fd, piece, at, 0) == (ssize_t)at);
+    at = status == ONCRPC_OUTPUT_WAITS ? at : (size_t)count;
+    return (!at || recv(peer->fd, piece, at, 0) == (ssize_t)at)
+        && (status == ONCRPC_MORE_WANTED || status == ONCRPC_OUTPUT_WAITS);
 }
 
 /* Writes what waits. Says how many bytes wait on, BOUND for those and more, or -1 where the other end is gone. */
@@ -153,7 +152,7 @@ static void take_peer(struct source *listener) {
     }
 }
 
-/* The reply goes from the address to which the call came, by what the kernel noted of it. IPv6 is answered as IPv4. */
+/* The reply goes from the address that was called, as the kernel noted it. Over IPv6 too, rows over IPv4 are told. */
 static void answer_datagram(struct source *source) {
     static uint8_t record[65536], reply[MOST_DATAGRAM];
     union { struct cmsghdr first; uint8_t bytes[CMSG_SPACE(sizeof(struct in6_pktinfo))]; } note;
@@ -166,8 +165,9 @@ static void answer_datagram(struct source *source) {
     if (count < 0 || !CMSG_FIRSTHDR(&message)) {
         return;
     }
-    const struct in6_pktinfo *to = (const void *)CMSG_DATA(CMSG_FIRSTHDR(&message));
+    struct in6_pktinfo *to = (void *)CMSG_DATA(CMSG_FIRSTHDR(&message));
     oncrpc_caller who = caller_at(&from.sin6_addr, &to->ipi6_addr);
+    to->ipi6_ifindex = 0; /* by whichever interface leads back */
     if (oncrpc_registry_answer_from(&registry, &who, "udp", 3, record, (size_t)count, reply, sizeof reply, &outcome)
         == ONCRPC_OK) {
         bytes = (struct iovec){reply, outcome.at};
@@ -184,7 +184,7 @@ static int socket_at(int type, const char *address, uint16_t *port) {
     struct sockaddr_in6 at = {.sin6_family = AF_INET6, .sin6_port = htons(*port)};
     socklen_t size = sizeof at;
     int on = 1, off = 0, made = socket(AF_INET6, type | SOCK_NONBLOCK | SOCK_CLOEXEC, 0);
-    if (made < 0 || inet_pton(AF_INET6, address, &at.sin6_addr) != 1
+    if (made < 0 || (errno = EINVAL, inet_pton(AF_INET6, address, &at.sin6_addr) != 1)
         || (type == SOCK_STREAM && setsockopt(made, SOL_SOCKET, SO_REUSEADDR, &on, sizeof on))
         || setsockopt(made, IPPROTO_IPV6, IPV6_V6ONLY, &off, sizeof off)
         || setsockopt(made, IPPROTO_IPV6, IPV6_RECVPKTINFO, &on, sizeof on)
@@ -196,7 +196,7 @@ static int socket_at(int type, const char *address, uint16_t *port) {
     return made;
 }
 
-/* A socket at this path, which every user may write to. */
+/* A socket at this path, in place of whatever stands there, which every user may write to. */
 static int socket_of(const char *path) {
     struct sockaddr_un at = {.sun_family = AF_UNIX};
     int made = socket(AF_UNIX, SOCK_STREAM | SOCK_NONBLOCK | SOCK_CLOEXEC, 0);
