@@ -346,6 +346,9 @@ void check_sessions() {
     JUDGE(*GOT(registry.answer_from(user, Transport::udp, set, reply)) && reply == words({9, 1, 0, 0, 0, 0, 1}));
     JUDGE(*GOT(registry.answer_from(trusted, Transport::tcp, set, reply)) && reply == words({9, 1, 0, 0, 0, 0, 0}));
     JUDGE((*GOT(registry.rows()))[6].owner == "1000");
+    const auto asked = words({9, 0, 2, 100000, 3, 3, 0, 0, 0, 0, 300, 7, 0, 0, 0});
+    const auto told = words({9, 1, 0, 0, 0, 0, 12, 0x31302E39, 0x2E382E37, 0x2E382E31}); // 10.9.8.7.8.1
+    JUDGE(*GOT(registry.answer_from(trusted, Transport::tcp, asked, reply)) && reply == told);
     JUDGE(fails(GOT(registry.answer_from({static_cast<Peer>(3), 0, {}, false}, Transport::tcp, set, reply)),
                 Status::no_caller));
     auto session = std::move(*GOT(Session::start(Transport::local, user, 0)));
