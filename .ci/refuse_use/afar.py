@@ -38,6 +38,7 @@ def success(results):
 TOO_WEAK = struct.pack(">5I", 7, 1, 1, 1, 5)
 TRUE, FALSE = (success(struct.pack(">I", it)) for it in (1, 0))
 SET, UNSET = call(2, 1, PROGRAM_AT_515), call(2, 2, PROGRAM_AT_515)
+SET_UDP = call(2, 1, (70000, 1, 17, 515))
 UNSET_OWN = call(2, 2, (100000, 2, 6, 0), SUPERUSER)
 GETADDR, GETVERSADDR = call(3, 3, RPCB), call(4, 9, RPCB)
 
@@ -59,6 +60,16 @@ STRICT = [
     ("and to a client of the loopback", LOOPBACK, LOOPBACK, "tcp", GETADDR, told(LOOPBACK)),
     ("an UNSET from afar is denied", AFAR, HERE, "tcp", UNSET, TOO_WEAK),
     ("an UNSET of this host is taken", LOOPBACK, LOOPBACK, "udp", UNSET, TRUE),
+    ("which address a datagram came to is not known: a SET from it is denied", HERE, HERE, "udp", SET_UDP, TOO_WEAK),
+    ("but one of the loopback is taken", LOOPBACK, HERE, "udp", SET_UDP, TRUE),
+    ("and GETADDR by datagram tells what was set", AFAR, HERE, "udp", GETADDR, told("0.0.0.0")),
+]
+# At one address of the host a datagram is known to have come there.
+AT_ONE = [
+    ("at one address a SET by datagram from afar is denied", AFAR, HERE, "udp", SET_UDP, TOO_WEAK),
+    ("one from that very address is taken", HERE, HERE, "udp", SET_UDP, TRUE),
+    ("GETADDR by datagram tells it", AFAR, HERE, "udp", GETADDR, told(HERE)),
+    ("so does GETVERSADDR", AFAR, HERE, "udp", GETVERSADDR, told(HERE)),
 ]
 INSECURE = [
     ("with --insecure a SET from afar is taken", AFAR, HERE, "tcp", SET, TRUE),
@@ -86,7 +97,7 @@ def ask(source, target, transport, message):
 def rows_of(program, words, rows):
     """Serves, and makes these calls: how many replies were right, and how many calls there were."""
     right = 0
-    with subprocess.Popen([program, "serve", "--port", "0", "--bind", "0.0.0.0", *words], stdout=subprocess.PIPE) as it:
+    with subprocess.Popen([program, "serve", "--port", "0", "--bind", *words], stdout=subprocess.PIPE) as it:
         try:
             port = int(it.stdout.readline().split()[-1])
             for name, source, target, transport, message, reply in rows:
@@ -110,5 +121,6 @@ def afar_rows(program):
 
 
 if __name__ == "__main__":
-    DONE = [rows_of(sys.argv[1], words, rows) for words, rows in (([], STRICT), (["--insecure"], INSECURE))]
+    SERVED = ((["0.0.0.0"], STRICT), ([HERE], AT_ONE), (["0.0.0.0", "--insecure"], INSECURE))
+    DONE = [rows_of(sys.argv[1], words, rows) for words, rows in SERVED]
     sys.exit(0 if all(right == count for right, count in DONE) else 1)
