@@ -122,9 +122,28 @@ with socket.create_connection(("::1", 111), 60) as asking:
 """
 
 
+# Sends a datagram from one address of the host to another, from where alone it takes the reply, and prints that.
+ASK_AT = """import socket, sys
+source, target, call = sys.argv[1:]
+with socket.socket(socket.AF_INET, socket.SOCK_DGRAM) as asking:
+    asking.settimeout(60)
+    asking.bind((source, 0))
+    asking.connect((target, 111))
+    asking.send(bytes.fromhex(call))
+    print(asking.recv(65536).hex())
+"""
+# GETADDR of version 3 of the registry itself, over the call's own transport (RFC 1833 section 2.2.1).
+GETADDR = struct.pack(">15I", 7, 0, 2, 100000, 3, 3, 0, 0, 0, 0, 100000, 4, 0, 0, 0)
+
+
+def told(address):
+    """The reply that tells this address."""
+    return reply(len(address)) + address + bytes(-len(address) % 4)
+
+
 def asked_by_clients(room):
     """At port 111 and rpcbind's socket, in a network and a /run of its own: asked from 127.0.0.1, from another address of
-    the host and over IPv6, by rpcinfo, and by services of libtirpc that register there and are found."""
+    the host, between both and over IPv6, by rpcinfo, and by services of libtirpc that register there and are found."""
     said = run([*C, "-w", "-I/usr/include/tirpc", f"{ROOT}/.ci/clients.c", "-o", f"{room}/clients", "-ltirpc"]).stderr
     if said or os.geteuid() != 0:
         print("libtirpc-dev, or a root who may take another uid, is not there: clients of rpcbind.c are skipped")
@@ -134,6 +153,8 @@ def asked_by_clients(room):
         sleep 1
         for host in 10.9.8.7 127.0.0.1 10.9.8.7; do "$0" -c "$2" "$host" "$4" "$5"; done
         "$0" -c "$3" "$6"
+        "$0" -c "$7" 127.0.0.1 10.9.8.7 "$8"
+        "$0" -c "$7" 10.9.8.7 127.0.0.1 "$8"
         "$1/clients" local 536870912 1 0.0.0.0.8.1 tcp; echo status $?
         setpriv --reuid 1000 --clear-groups "$1/clients" local 536870912 2 0.0.0.0.8.1 udp; echo status $?
         setpriv --reuid 1001 --clear-groups "$1/clients" unset 536870912 2 udp; echo status $?
@@ -143,9 +164,10 @@ def asked_by_clients(room):
         kill $pid; wait $pid; echo status $?"""
     asked_from = ASK_FROM.replace("1111", "111")
     words = ["unshare", "-n", "-m", "--propagation", "private", "sh", "-c", inside, sys.executable, room, asked_from]
-    ran = run([*words, ASK_OVER_6, SET.hex(), GETPORT.hex(), record(GETPORT).hex()])
+    ran = run([*words, ASK_OVER_6, SET.hex(), GETPORT.hex(), record(GETPORT).hex(), ASK_AT, GETADDR.hex()])
     got = [" ".join(line.split()) for line in ran.stdout.splitlines()]
     wanted = [WEAK, reply(0), reply(1), reply(2049), WEAK, reply(2049), record(reply(2049))]
+    wanted += [told(b"10.9.8.7.0.111"), told(b"127.0.0.1.0.111")]
     wanted = [it.hex() for it in wanted] + ["status 0", "status 0", "status 1", "127.0.0.1.8.1"]
     wanted += ["536870912 1 tcp 0.0.0.0.8.1 - superuser", "536870912 2 udp 0.0.0.0.8.1 - 1000"]
     wanted += ["program 100000 version 4 ready and waiting", "status 0"]
