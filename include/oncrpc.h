@@ -763,10 +763,11 @@ typedef struct {
  * be given what any peer sends, where `caller` is true:
  *
  * SET and UNSET of ONCRPC_PEER_REMOTE are refused, AUTH_ERROR with AUTH_TOOWEAK, and change no row, unless
- * `trusts_remote` is true. The owner of ONCRPC_PEER_LOCAL_USER is `uid`, whatever its AUTH_SYS claims; that of another
- * is what it claims, but nobody of another host is superuser. SET of a row that is there, with the same address and
- * owner, is TRUE, so that a service that begins again may register again. An address at 0.0.0.0 that is asked for by
- * GETADDR or GETVERSADDR is told at `host`, where `has_host` is true, and so as a remote client can connect to it.
+ * `trusts_remote` is true. The owner of ONCRPC_PEER_LOCAL_USER is `uid`, whatever its credential claims and of whatever
+ * flavor that is; that of another is what it claims, but nobody of another host is superuser. SET of a row that is
+ * there, with the same address and owner, is TRUE, so that a service that begins again may register again. GETADDR and
+ * GETVERSADDR tell an address at 0.0.0.0 at `host`, where `has_host` is true, and so as a remote client can connect to
+ * it. An address of IPv6, as one at ::, is told as it was set.
  *
  * `netid` may be local too, for a socket of this host (AF_UNIX). Over it, rows of the netid local are looked up.
  *
@@ -1018,9 +1019,9 @@ uint32_t oncrpc_session_start(
     oncrpc_outcome *outcome);
 
 /* Takes bytes of `piece`, which may be empty, up to the end of a record, and answers that record: as
- * oncrpc_registry_answer_from does, by the session's transport and caller. The reply, where there is one, stands behind the
- * output, behind the header of a last fragment. What waits for oncrpc_registry_reply stays. `piece` may be NULL where
- * its count is 0.
+ * oncrpc_registry_answer_from does, by the session's transport and caller. The reply, where there is one, stands behind
+ * the output, behind the header of a last fragment. What waits for oncrpc_registry_reply stays. `piece` may be NULL
+ * where its count is 0.
  *
  * ONCRPC_OK: a record was answered. The first `at` bytes of the piece were taken, the last of which is the record's
  * last; the others are to be fed again. ONCRPC_MORE_WANTED: all bytes were taken, and no record is whole.
