@@ -155,9 +155,15 @@ def in_the_way(program, folder):
     said = refused(program, path)
     yield "a folder stays", said == FAULT and os.listdir(folder) == ["socket"], said
     os.rmdir(path)
-    for name, wrong in (("no folder", f"{folder}/none/socket"), ("too long", f"{folder}/{'a' * 108}"), ("empty", "")):
+    longest = f"{folder}/".ljust(98, "a")
+    for name, wrong in (("no folder", f"{folder}/none/socket"), ("99 bytes", f"{longest}a"), ("empty", "")):
         said = refused(program, wrong)
         yield name, said == FAULT and os.listdir(folder) == [], (said, os.listdir(folder))
+    with Kept(program, "--local", longest) as kept:
+        second_line(kept)
+        with at_path(longest) as made:
+            yield "98 bytes", is_answered(made, 1), os.listdir(folder)
+    os.remove(longest)
     os.mkdir(f"{path}.0")
     with Kept(program, "--local", path) as kept:
         second_line(kept)
