@@ -153,9 +153,11 @@ steps_at old new i s t at updated limits step h = record {
   limits = limits;
 }
 
-pub starts : (old new : SessionTable) (i : ℕ) (s : Session) (origin : Origin) → Updated old (session_at new) i (Some s)
-    → SameLimits old new → origin_of s ≡ origin → HasRead s [] [] → Holds s [] 0 → Starts old new i origin
-starts old new i s origin updated limits of read held = record {
+pub starts : (old new : SessionTable) (i : ℕ) (s : Session) (origin : Origin) → i ≡ next_of old
+    → Updated old (session_at new) i (Some s) → SameLimits old new → origin_of s ≡ origin → HasRead s [] []
+    → Holds s [] 0 → Starts old new i origin
+starts old new i s origin number updated limits of read held = record {
+  number = number;
   session = s;
   is = put_here (session_at old) (session_at new) i (Some s) updated;
   others = put_others (session_at old) (session_at new) i (Some s) updated;

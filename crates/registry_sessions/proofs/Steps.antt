@@ -49,6 +49,8 @@ takes_record old new fed rows after piece used limit feeds fault sent within nex
     refused = next.pushes.refused;
     sent = next.pushes.sent;
     answer = next.pushes.answer;
+    ends = λ bytes rs h. subst (λ n. IsWhole n (rs ++ next.message ∷ []) (bytes ++ take used piece)) (limit ∙ h.limit)
+        (next.handed (bytes ++ take used piece) rs (feeds.2 bytes rs h.represents));
     reads = λ bytes rs h. record {
       sound = fault ∙ h.sound;
       taking = between_taking new.records next.between;

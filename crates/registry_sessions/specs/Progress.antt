@@ -105,9 +105,10 @@ pub record Steps (old new : SessionTable) (i : ℕ) (step : Session → Session 
   pub steps : step before after
   pub limits : SameLimits old new
 
--- There is a session of this origin at this number now, which has read nothing and has no replies. All others are as
--- they were.
+-- There is a session of this origin at this number now, which has read nothing and has no replies. The number is the
+-- next, which no connection has had. All others are as they were.
 pub record Starts (old new : SessionTable) (i : ℕ) (origin : Origin) : Type 0 where
+  pub number : i ≡ next_of old
   pub session : Session
   pub is : session_at new i ≡ Some session
   pub others : (j : ℕ) → j ≢ i → session_at new j ≡ session_at old j

@@ -68,18 +68,22 @@ abbrev pub Replies : Session → Session → List (List ℕ) → Type 0
 Replies old new more = (replies : List (List ℕ)) (count : ℕ) → Holds old replies count
     → Holds new (replies ++ more) count
 
--- A record was whole with these bytes, and it was answered: the new rows, and its reply behind those that wait.
+-- A record was whole with these bytes, of which the last is its last, and it was answered: the new rows, and its reply
+-- behind those that wait.
 pub record Answers (old new : Session) (rows after : List Row) (bytes : List ℕ) : Type 0 where
   pub message : List ℕ
   pub refused : Bool
   pub sent : Option (List ℕ)
   pub answer : AnswerFrom (origin_of old).caller rows (netid_of (origin_of old).transport) message refused after sent
+  pub ends : (before : List ℕ) (rs : List (List ℕ)) → HasRead old before rs
+      → IsWhole most_record (rs ++ message ∷ []) (before ++ bytes)
   pub reads : Reads old new bytes (message ∷ [])
   pub replies : Replies old new (listed sent)
 
 -- what taking bytes of a piece does
 abbrev pub Takes : Session → Session → (rows after : List Row) → (piece : List ℕ) → Taken → Type 0
-Takes old new rows after piece taken.More = (after ≡ rows) × Reads old new piece [] × Replies old new []
+Takes old new rows after piece taken.More =
+    (after ≡ rows) × Reads old new piece [] × Replies old new [] × (output_of new ≡ output_of old)
 Takes old new rows after piece (taken.Answered used) =
     (used ≤ length piece) × ((bytes : List ℕ) (rs : List (List ℕ)) → HasRead old bytes rs → 0 < used)
     × Answers old new rows after (take used piece)

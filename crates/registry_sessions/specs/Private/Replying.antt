@@ -4,7 +4,8 @@ use Rattle.rpc_record.specs.declared.fault.RecordFault.{RecordFault}
 use Rattle.rpc_record.specs.declared.fault.RecordFault.TheVariants as flaw
 use Rattle.rpc_record.specs.declared.reader.RecordReader.{RecordReader}
 use Rattle.rpc_record.specs.Marked.{normal}
-use Rattle.rpc_record.specs.Represents.{IsBetween, Moves, limit_of}
+use Rattle.rpc_record.specs.Reading.{IsWhole}
+use Rattle.rpc_record.specs.Represents.{Always, IsBetween, Moves, limit_of}
 use Rattle.registry_rows.specs.Rows.{Row}
 use Rattle.registry_answer.specs.Views.{netid_of}
 use Rattle.registry_sessions.specs.declared.origin.Origin.{Origin}
@@ -23,11 +24,12 @@ pub record PushesReply (origin : Origin) (rows : List Row) (message : List ℕ) 
   pub added : out ≡ old ++ normal (listed sent)
   pub short : length (normal (listed sent)) ≤ most_marked
 
--- The record that waited was handed out and answered.
+-- The record that waited was handed out and answered. The bytes taken end with it.
 pub record AnswersNext (origin : Origin) (rows : List Row) (before after : RecordReader) (new : List Row)
     (old out : List ℕ) : Type 0 where
   pub message : List ℕ
   pub between : IsBetween after
+  pub handed : Always before (λ rs bytes. IsWhole (limit_of before) (rs ++ message ∷ []) bytes)
   pub limit : limit_of after ≡ limit_of before
   pub moves : Moves before after [] (message ∷ [])
   pub pushes : PushesReply origin rows message new old out
