@@ -8,3 +8,4 @@ pub mod Owning
 pub mod Told
 pub mod Asked
 pub mod Same
+pub mod Some

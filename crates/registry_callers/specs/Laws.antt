@@ -21,6 +21,11 @@ OneAnswerFrom = (caller : Caller) (rows new other : List Row) (netid message : L
     (sent said : Option (List ℕ)) → AreBytes message → AnswerFrom caller rows netid message refused new sent
     → AnswerFrom caller rows netid message refused other said → (new ≡ other) × (sent ≡ said)
 
+-- each record of each caller has an answer where no memory is refused
+abbrev pub SomeAnswerFrom : Type 0
+SomeAnswerFrom = (caller : Caller) (rows : List Row) (netid message : List ℕ) → AreBytes message
+    → ((new : List Row) (sent : Option (List ℕ)) → AnswerFrom caller rows netid message false new sent → ⊥) → ⊥
+
 -- the record is no SET of a row that is there
 abbrev pub NeverAgain : List Row → (netid message : List ℕ) → Type 0
 NeverAgain rows netid message = (c : CallView) (made : List Row) (sent : Option (List ℕ)) → CallBytes c message

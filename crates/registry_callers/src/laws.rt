@@ -1,8 +1,8 @@
 //! Laws of the definitions that the contracts name. No call of them does anything.
 ghost use Rattle.registry_callers.specs.Laws.{LocalIsAsEver, OneAnswerFrom, OthersAreAsEver, RemoteIsDenied};
-ghost use Rattle.registry_callers.specs.Laws.{NobodyAfarIsSuperuser, RefusedRowsStay, UserIsOwner};
+ghost use Rattle.registry_callers.specs.Laws.{NobodyAfarIsSuperuser, RefusedRowsStay, SomeAnswerFrom, UserIsOwner};
 
-use registry_answer::one_answer;
+use registry_answer::{each_record_has_an_answer, one_answer};
 use rpc_message::{call_bytes_are_exact, five_cases};
 
 /// A record has one answer: who calls, the rows, the transport's netid, the record's bytes and whether memory was
@@ -13,6 +13,14 @@ pub fn one_answer_from()
     call_bytes_are_exact();
     one_answer();
     five_cases();
+}
+
+/// Each record of each caller has an answer with no memory refused: so SYSTEM_ERR for an allocation failure is never
+/// the only lawful one.
+pub fn each_caller_has_an_answer()
+    ensures { SomeAnswerFrom }
+{
+    each_record_has_an_answer();
 }
 
 /// A caller of this host has the plain answer, where it sets no row again and looks no address at 0.0.0.0 up.
