@@ -9,3 +9,5 @@ pub mod Told
 pub mod Asked
 pub mod Same
 pub mod Some
+pub mod Kept
+pub mod Superusers

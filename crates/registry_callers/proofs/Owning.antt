@@ -4,7 +4,8 @@ use Rattle.std.proofs.Common.{get_or, decimal, refl, ap, sym, ◌∙◌, arith, 
 use Rattle.std.proofs.lemmas.Bool.{cases_Bool}
 use Rattle.std.proofs.lemmas.Bool.Decides.{Decides-eqb}
 use Rattle.std.proofs.lemmas.Fmt.{decimal_by_steps}
-use Rattle.rpc_message.specs.Message.{AuthView}
+use Rattle.rpc_message.specs.Message.{AuthView, AuthSysView}
+use Rattle.rpc_message.specs.Spelling.{AuthSysBytes}
 use Rattle.registry_rows.specs.Steps.{superuser}
 use Rattle.registry_answer.specs.Callers as plain
 use Rattle.registry_answer.specs.Callers.{IsCaller, Owner, unknown, owner_of, anyone, user, unreadable, other}
@@ -22,8 +23,12 @@ cred_of_user (lowered h) uid e = absurd cc
 cred_of_user (believed h) uid e = absurd cc
 cred_of_user local uid e = absurd cc
 
-owns : (uid : ℕ) → uid < 2 ^ 32 → IsCaller (user_cred uid) (Owner (owner_of uid))
-owns uid fits = user (record { stamp = 0; machine = []; uid = uid; gid = 0; gids = [] }) refl (record {
+-- the body of that credential
+abbrev pub body_of : ℕ → AuthSysView
+body_of uid = record { stamp = 0; machine = []; uid = uid; gid = 0; gids = [] }
+
+pub spells : (uid : ℕ) → uid < 2 ^ 32 → AuthSysBytes (body_of uid) (user_cred uid).body
+spells uid fits = record {
   fits = record {
     stamp = omega arith;
     machine = omega arith;
@@ -34,7 +39,10 @@ owns uid fits = user (record { stamp = 0; machine = []; uid = uid; gid = 0; gids
         λ k d within. absurd (omega (arith, within));
   };
   parts = refl;
-})
+}
+
+owns : (uid : ℕ) → uid < 2 ^ 32 → IsCaller (user_cred uid) (Owner (owner_of uid))
+owns uid fits = user (body_of uid) refl (spells uid fits)
 
 pub user_is_owner : UserIsOwner
 user_is_owner uid c asked fits v =
@@ -81,8 +89,9 @@ owner_not uid fits some e = elim (cases_Bool (uid == 0)) [
   | inr f ↦ no_number uid fits (sym (owner_is uid false f) ∙ e)
 ]
 
-not_superuser : (cred : AuthView) (owner : List ℕ) → (ClaimsSuperuser cred → ⊥) → {k : plain.Caller} → IsCaller cred k
-    → k ≡ Owner owner → owner ≡ superuser → ⊥
+-- an owner whose credential does not claim it is not the superuser
+pub not_superuser : (cred : AuthView) (owner : List ℕ) → (ClaimsSuperuser cred → ⊥) → {k : plain.Caller}
+    → IsCaller cred k → k ≡ Owner owner → owner ≡ superuser → ⊥
 not_superuser cred owner none (anyone e) f g = no_unknown (let h : unknown ≡ owner = cc in h ∙ g)
 not_superuser cred owner none (user a e s) f g =
     owner_not a.uid (omega (arith, s.fits.uid)) (λ z. none (record {

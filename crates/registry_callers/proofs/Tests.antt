@@ -10,6 +10,21 @@ pub second_true : (a b : Bool) → (a && b) ≡ true → b ≡ true
 second_true true b e = e
 second_true false b e = absurd (true≢false (sym e))
 
+-- two that are true
+pub both_true : (a b : Bool) → a ≡ true → b ≡ true → (a && b) ≡ true
+both_true true b e f = f
+both_true false b e f = absurd (true≢false (sym e))
+
+-- and two of which the second is false
+pub second_false : (a b : Bool) → b ≡ false → (a && b) ≡ false
+second_false true b e = e
+second_false false b e = refl
+
+-- the first of two of which none is true
+pub first_false : (a b : Bool) → (a || b) ≡ false → a ≡ false
+first_false true b e = absurd (true≢false e)
+first_false false b e = refl
+
 -- one of two of which some is true
 pub one_true : (a b : Bool) → (a || b) ≡ true → (a ≡ true) ⊎ (b ≡ true)
 one_true true b e = inl refl

@@ -1,5 +1,6 @@
 -- What holds of the answers to callers.
 use Rattle.std.specs.Prelude.{◌≡◌, ◌≢◌, ℕ, ◌<◌, ◌^◌, Bool, true, false, ◌||◌, List, [], Option, Some}
+use Rattle.std.specs.List.{list_any}
 use Rattle.xdr_units.specs.Numbers.{AreBytes}
 use Rattle.rpc_message.specs.Message.{CallView}
 use Rattle.rpc_message.specs.Spelling.{CallBytes, reply}
@@ -13,7 +14,7 @@ use Rattle.registry_callers.specs.Callers.{auth_tooweak, is_trusted}
 use Rattle.registry_callers.specs.Asking.{is_set, is_change, is_look_up}
 use Rattle.registry_callers.specs.Vouching.{IsVouched}
 use Rattle.registry_callers.specs.Addresses.{address_reply, told}
-use Rattle.registry_callers.specs.From.{AnswerFrom, is_there}
+use Rattle.registry_callers.specs.From.{AnswerFrom, is_same, is_there}
 
 -- caller, rows, netid, record and whether memory was refused fix the new rows and what is sent
 abbrev pub OneAnswerFrom : Type 0
@@ -71,3 +72,11 @@ UserIsOwner = (uid : ℕ) (c : CallView) (asked : List ℕ) → uid < 2 ^ 32
 abbrev pub NobodyAfarIsSuperuser : Type 0
 NobodyAfarIsSuperuser = (c : CallView) (asked owner : List ℕ) → (v : IsVouched peer.Remote c asked)
     → IsCaller v.cred (Owner owner) → owner ≢ superuser
+
+-- a row of the superuser stays, unless user 0 calls, or one of this host whom the kernel does not name
+abbrev pub SuperusersRowsStay : Type 0
+SuperusersRowsStay = (caller : Caller) (rows new : List Row) (netid message : List ℕ) (refused : Bool)
+    (sent : Option (List ℕ)) (r : Row) → caller.peer ≢ peer.Local → caller.peer ≢ peer.LocalUser 0
+    → ((uid : ℕ) → caller.peer ≡ peer.LocalUser uid → uid < 2 ^ 32)
+    → r.owner ≡ superuser → list_any (is_same r) rows ≡ true
+    → AnswerFrom caller rows netid message refused new sent → list_any (is_same r) new ≡ true

@@ -1,9 +1,10 @@
 //! Laws of the definitions that the contracts name. No call of them does anything.
 ghost use Rattle.registry_callers.specs.Laws.{LocalIsAsEver, OneAnswerFrom, OthersAreAsEver, RemoteIsDenied};
 ghost use Rattle.registry_callers.specs.Laws.{NobodyAfarIsSuperuser, RefusedRowsStay, SomeAnswerFrom, UserIsOwner};
+ghost use Rattle.registry_callers.specs.Laws.{SuperusersRowsStay};
 
 use registry_answer::{each_record_has_an_answer, one_answer};
-use rpc_message::{call_bytes_are_exact, five_cases};
+use rpc_message::{auth_sys_bytes_are_exact, call_bytes_are_exact, five_cases};
 
 /// A record has one answer: who calls, the rows, the transport's netid, the record's bytes and whether memory was
 /// refused fix the new rows and what is sent.
@@ -55,3 +56,11 @@ pub fn user_is_owner()
 pub fn nobody_afar_is_superuser()
     ensures { NobodyAfarIsSuperuser }
 {}
+
+/// A row of the superuser stays, unless user 0 of this host calls, or one of this host whom the kernel does not name.
+pub fn superusers_rows_stay()
+    ensures { SuperusersRowsStay }
+{
+    auth_sys_bytes_are_exact();
+    call_bytes_are_exact();
+}

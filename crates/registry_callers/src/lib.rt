@@ -20,5 +20,5 @@ pub use answering::append_answer_from;
 pub use callers::{AUTH_TOOWEAK, Caller, Peer};
 pub use laws::{
     each_caller_has_an_answer, local_is_as_ever, nobody_afar_is_superuser, one_answer_from,
-    others_are_as_ever, refused_rows_stay, remote_is_denied, user_is_owner,
+    others_are_as_ever, refused_rows_stay, remote_is_denied, superusers_rows_stay, user_is_owner,
 };
