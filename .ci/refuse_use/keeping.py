@@ -142,6 +142,20 @@ def trickle(made, stop):
                     return
 
 
+def call_unread(made):
+    """Makes a call, and leaves the reply unread."""
+    made.sendall(marked(call(1)))
+    made.recv(1, socket.MSG_PEEK)
+
+
+def call_greedily(made):
+    """Asks for the list of rows until no more is taken, and reads none."""
+    made.setblocking(False)
+    with contextlib.suppress(BlockingIOError):
+        while True:
+            made.send(marked(call(2, 4)) * 100)
+
+
 @contextlib.contextmanager
 def hindering(kept):
     """A client that says nothing, one that trickles, one that stops inside a record, and one that takes no replies."""
@@ -150,10 +164,7 @@ def hindering(kept):
     trickler = threading.Thread(target=trickle, args=(slow, stop))
     trickler.start()
     half.sendall(b"\x80\x01\x00\x00" + bytes(60000))
-    greedy.setblocking(False)
-    with contextlib.suppress(BlockingIOError):
-        while True:
-            greedy.send(marked(call(2, 4)) * 100)
+    call_greedily(greedy)
     try:
         yield silent, slow, half, greedy
     finally:
@@ -212,6 +223,21 @@ def lines(program):
     yield "the line of each connection, and SIGINT", well, (idle, told, said, wanted)
 
 
+def reset(program):
+    """Clients that reset their connection, the second while replies wait: each ends alone, and has its line."""
+    with Kept(program, "--verbose") as kept, kept.client() as other:
+        for number, (begin, fault) in enumerate(((call_unread, "Read"), (call_greedily, "Write")), 2):
+            with kept.client() as made:
+                wanted = f"connection {number} from {HOST}:{made.getsockname()[1]}: {fault}\n"
+                begin(made)
+                time.sleep(1)
+                # Closed so it is reset.
+                made.setsockopt(socket.SOL_SOCKET, socket.SO_LINGER, struct.pack("ii", 1, 0))
+            told = kept.lines(1)
+            is_well = told == wanted.encode() and is_answered(other, number)
+            yield f"a connection that is reset, {fault}", is_well, (told, wanted)
+
+
 def held(kept, clients, name):
     """Of clients that all call some are answered, and the others once as many have gone."""
     for number, made in enumerate(clients):
@@ -261,10 +287,7 @@ def holds_little(program):
             sets = read(setting, 32 * 1018)
         greedy = [opened.enter_context(kept.client()) for _ in range(32)]
         for made in greedy:
-            made.setblocking(False)
-            with contextlib.suppress(BlockingIOError):
-                while True:
-                    made.send(marked(call(2, 4)) * 100)
+            call_greedily(made)
         with kept.client() as caller:
             began = time.monotonic()
             well = all(is_answered(caller, it) for it in range(100))
@@ -312,7 +335,7 @@ def answered(kept):
 
 def kept_rows(program, heap):
     """The rows, each whether it is as it should be."""
-    some = [at_once, lines, full, idle, bounded]
+    some = [at_once, lines, reset, full, idle, bounded]
     for rows in [*some, lambda it: growths(it, heap)] if heap else some:
         for name, is_well, told in rows(program):
             print(f"oncrpc serve, {name}: {'as it should' if is_well else told}", flush=True)
