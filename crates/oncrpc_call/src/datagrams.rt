@@ -70,20 +70,20 @@ fn receive_reply<P: DatagramPort>(
             Ok(n) => n as usize,
             Err(PortFault) => return Err(ClientFault::Read),
         };
-        if !is_other(xid, &array[..n]) {
+        if is_own(xid, &array[..n]) {
             return reply_to(alloc, xid, &array[..n]);
         }
     }
     Err(ClientFault::TooManyReads)
 }
 
-// Whether a message begins with another xid. It takes no memory.
-fn is_other(xid: u32, message: &[u8]) -> bool
-    ensures { MatchBool result (IsOther xid message.now) (IsOther xid message.now → ⊥) }
+// Whether a message begins with no other xid. It takes no memory.
+fn is_own(xid: u32, message: &[u8]) -> bool
+    ensures { MatchBool result (IsOther xid message.now → ⊥) (IsOther xid message.now) }
 {
     match first_word(message) {
-        Some((got, _rest)) => got != xid,
-        None => false,
+        Some((got, _rest)) => got == xid,
+        None => true,
     }
 }
 

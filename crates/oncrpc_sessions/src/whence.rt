@@ -1,6 +1,6 @@
 //! Where a connection or a datagram comes from (this project's own, after rpcbind).
 ghost use Rattle.std.specs.Prelude.{◌≡◌};
-ghost use Rattle.std.specs.Net.SockAddr.{socket_ip};
+ghost use Rattle.std.specs.Net.Socket.{socket_ip};
 ghost use Rattle.oncrpc_sessions.specs.Callers.{host_at, host_of, is_called, peer_at};
 
 use registry_answer::Transport;

@@ -12,7 +12,7 @@ pub passing-preserved : goal.passing-preserved
 passing-preserved g c =
     let inv = c.passing.invariant in
     let message : List ℕ = take c.in-Ok.n c.receive.new.array in
-    let other : IsOther c.args.xid message = rw c.if-is_other.true at c.is_other.ensures in
+    let other : IsOther c.args.xid message = rw c.if-is_own.false at c.is_own.ensures in
     let longer = length-append inv.passed.0 (message ∷ []) in
     record {
       passed = (
@@ -36,12 +36,12 @@ returns-in-Err g c =
       unwritten = refl;
     }
 
-pub returns-then-is_other : goal.returns-then-is_other
-returns-then-is_other g c =
+pub returns-then-is_own : goal.returns-then-is_own
+returns-then-is_own g c =
     let inv = c.passing.invariant in
     let message : List ℕ = take c.in-Ok.n c.receive.new.array in
     let answer = c.reply_to.result in
-    let own : IsOther c.args.xid message → ⊥ = rw c.if-is_other.false at c.is_other.ensures in
+    let own : IsOther c.args.xid message → ⊥ = rw c.if-is_own.true at c.is_own.ensures in
     let quiet = no_device c.args.xid message answer c.reply_to.ensures in
     record {
       answered = spoken_at c.args.xid _ _ _ inv.passed.0 message answer own inv.passed.1 c.in-Ok.ensures.received
