@@ -50,10 +50,10 @@ nothing_answered xid left left' w answer text none a t =
 -- what is received of one datagram is that one
 first_left : (left' : Reported) (m n : List ℕ) (ns : List (List ℕ)) → Receives (Some (m ∷ [])) left' (n ∷ ns) → m ≡ n
 first_left None m n ns r = absurd r
-first_left (Some rest) m n ns r = first_of (m ∷ []) (n ∷ ns ++ rest) r
+first_left (Some rest) m n ns r = head_of r
   where
-    first_of : (xs ys : List (List ℕ)) → xs ≡ ys → m ≡ n
-    first_of (x ∷ xs) (y ∷ ys) e = cc
+    head_of : m ∷ [] ≡ n ∷ ns ++ rest → m ≡ n
+    head_of e = cc
 
 one_left : (left' : Reported) (m : List ℕ) → Receives (Some (m ∷ [])) left' [] → left' ≡ Some (m ∷ [])
 one_left None m r = absurd r
