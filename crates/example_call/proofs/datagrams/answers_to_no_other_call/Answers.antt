@@ -8,13 +8,13 @@ returns-clause-no_result g c = λ zero.
     let e = c.call_datagram.ensures in
     let p = e.ends.printed zero in
     let other = c.requires.other in
-    other_answered c.args.asked.now.call.xid _ _ other.0 (wanted_of c.args.asked.now) e.answer p.text other.1.0
-    other.1.1 e.asks.answer_is (inl p.shows)
+    other_answered c.args.asked.now.call.xid _ _ other.0 (wanted_of c.args.asked.now) e.answer p.text other.1
+    other.2 e.asks.answer_is (inl p.shows)
 
 pub returns-clause-no_refusal : goal.returns-clause-no_refusal
 returns-clause-no_refusal g c = λ one.
     let e = c.call_datagram.ensures in
     let s = e.ends.said one in
     let other = c.requires.other in
-    other_answered c.args.asked.now.call.xid _ _ other.0 (wanted_of c.args.asked.now) e.answer s.line other.1.0
-    other.1.1 e.asks.answer_is (inr s.refuses)
+    other_answered c.args.asked.now.call.xid _ _ other.0 (wanted_of c.args.asked.now) e.answer s.line other.1
+    other.2 e.asks.answer_is (inr s.refuses)
