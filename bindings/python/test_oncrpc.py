@@ -1,7 +1,7 @@
 """What oncrpc.py makes of values, messages, records and rows.
 
 Expected values come from the RFCs, from bytes worked by hand, and from messages that real clients and rpcbind sent
-(crates/test_vectors/stdin). ONCRPC_LIBRARY names the folder of the shared library, and ONCRPC_LAYOUT a file with what a
+(tests/rows/captured.txt). ONCRPC_LIBRARY names the folder of the shared library, and ONCRPC_LAYOUT a file with what a
 C compiler makes of the header; without the second its test is skipped.
 """
 
@@ -52,7 +52,7 @@ def words(*numbers):
 
 def captured(sort):
     """The messages of one sort that were captured, `call` or `reply`."""
-    return [bytes.fromhex(it) for it in re.findall(rf"^{sort} (\w+)$", read("crates/test_vectors/stdin"), re.M)]
+    return [bytes.fromhex(it) for it in re.findall(rf"^{sort} (\w+)$", read("tests/rows/captured.txt"), re.M)]
 
 
 class Case(unittest.TestCase):
