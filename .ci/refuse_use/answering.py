@@ -126,12 +126,12 @@ def slow(server, message, datagram):
 
 def greedy(server, message, datagram):
     """More than a reply may have."""
-    yield words(0x80000000 | 16777217) + bytes(64) if not datagram else words(XID) + bytes(59996)
+    yield words(0x80000000 | 16777217) + bytes(64) if not datagram else message[:4] + bytes(59996)
 
 
 def garbage(server, message, datagram):
-    """Bytes that are no message, over UDP behind the xid of the call."""
-    yield (words(XID) if datagram else b"") + b"HTTP/1.1 400 Bad Request\r\n\r\n"
+    """Bytes that are no message, over UDP behind the xid of the call that came."""
+    yield (message[:4] if datagram else b"") + b"HTTP/1.1 400 Bad Request\r\n\r\n"
 
 
 def straying(server, message, datagram):
@@ -156,7 +156,7 @@ def dripping(server, message, datagram):
 
 
 def gone(server, message, datagram):
-    return [words(XID)] if datagram else []
+    return [message[:4]] if datagram else []
 
 
 def other(server, message, datagram):
