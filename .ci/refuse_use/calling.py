@@ -111,6 +111,17 @@ def unanswered_rows(program, folder):
     yield "the xid of two calls", len(xids) == 2, xids
 
 
+def early_rows(program, folder, heap):
+    """A wait that the system ends too early goes on: it counts neither as the time that is up nor as a fault."""
+    for over in ("", "--udp"):
+        for number in ("1", "2"):
+            with Server(silent) as server:
+                line = call_words(server.port, ["ASKED.FIRST.NIL", "--timeout", "2", *over.split()])
+                got, took = run(program, folder, line, LD_PRELOAD=heap, EARLY_RECEIVE=number)
+            well = got == (3, b"", NO_ANSWER) and took >= 1.9 and len(server.calls) == (2 if over else 1)
+            yield f"receive {number} ends too early {over}", well, (got, took, len(server.calls))
+
+
 def unheard_rows(program, folder):
     """Who takes no connection, or nothing of what is sent over it, is waited for no longer, either."""
     with full() as port:
@@ -239,7 +250,7 @@ def call_rows(program, folder, heap):
         for name, is_well, told in rows(program, folder):
             print(f"oncrpc call, {name}: {'as it should' if is_well else told}", flush=True)
             yield bool(is_well)
-    for rows in (refused_rows, refused_pings, placed_rows) if heap else ():
+    for rows in (early_rows, refused_rows, refused_pings, placed_rows) if heap else ():
         for name, is_well, told in rows(program, folder, heap):
             print(f"oncrpc call, {name}: {'as it should' if is_well else told}", flush=True)
             yield bool(is_well)
