@@ -6,6 +6,7 @@ import stat
 import subprocess
 
 from refuse_use.standins import Tree, heed_signals
+from telling import line_of
 
 # The functions, each with a page of its own, and other lines of the header.
 HEADER = """/* oncrpc_told(in a comment */
@@ -137,7 +138,7 @@ def is_refused(got, status, told):
 
 def row(what, well, *found):
     """What is printed of a row, and whether it is well."""
-    return f"{what}: {'as it should be' if well else found}", bool(well)
+    return line_of(what, well, found), bool(well)
 
 
 def put_in_way(at, kind, other):

@@ -3,6 +3,8 @@ import os
 import shutil
 import subprocess
 
+from telling import tell
+
 ROOT = os.path.dirname(os.path.dirname(os.path.dirname(os.path.realpath(__file__))))
 C = ["cc", "-std=c11", "-O2", "-Wall", "-Wextra", "-Wpedantic", "-Werror"]
 CPP_FLAGS = ["-std=c++17", "-O2", "-Wall", "-Wextra", "-Wpedantic", "-Werror"]
@@ -14,8 +16,7 @@ def run(words, **how):
 
 
 def passed(name, is_well, said=""):
-    print(f"{name}: {'as it should be' if is_well else said}")
-    return is_well
+    return tell(name, is_well, said)
 
 
 def compiled(library, source, to, *more):

@@ -11,6 +11,11 @@ import struct
 import subprocess
 import sys
 
+sys.dont_write_bytecode = True
+sys.path.insert(0, os.path.dirname(os.path.dirname(os.path.realpath(__file__))))
+
+from telling import tell
+
 HERE, AFAR, LOOPBACK = "10.9.8.8", "10.9.8.7", "127.0.0.1"
 # The networks of the addresses, in the namespace.
 INSIDE = f'ip link set lo up && ip address add {HERE}/32 dev lo && ip address add {AFAR}/32 dev lo && exec "$@"'
@@ -102,9 +107,7 @@ def rows_of(program, words, rows):
             port = int(it.stdout.readline().split()[-1])
             for name, source, target, transport, message, reply in rows:
                 said = ask(source, (target, port), transport, message)
-                is_well = said == reply
-                print(f"afar: {name}: {'as it should be' if is_well else said.hex()}", flush=True)
-                right += is_well
+                right += tell(f"afar: {name}", said == reply, said.hex())
         finally:
             it.kill()
     return right, len(rows)
@@ -117,7 +120,8 @@ def afar_rows(program):
     if not able or subprocess.run([*own, "true"], check=False, capture_output=True).returncode != 0:
         print("afar: skipped, since no network of its own can be made", flush=True)
         return []
-    return [subprocess.run([*own, sys.executable, os.path.realpath(__file__), program], check=False).returncode == 0]
+    ended = subprocess.run([*own, sys.executable, os.path.realpath(__file__), program], check=False)
+    return [tell("afar, all of them", ended.returncode == 0, ended)]
 
 
 if __name__ == "__main__":

@@ -29,6 +29,7 @@ from refuse_use.called import ASKED, DECLARED, NOBODY, ONE_PING, PINGED, UNASKED
 from refuse_use.called import call, call_words, opaque, run, success, words
 from refuse_use.recorded import GENERATED, RECORDED, SERVED
 from refuse_use.refusing import placed_rows, refused_pings, refused_rows
+from telling import tell
 
 ROOT = os.path.dirname(os.path.dirname(os.path.dirname(os.path.realpath(__file__))))
 # The programs whose declarations are installed, and that of rpcgen's server.
@@ -248,9 +249,7 @@ def call_rows(program, folder, heap):
     by_themselves = (asked_rows, unasked_rows, longest_rows, hindered_rows, unread_rows, info_rows, ping_rows)
     for rows in (*by_themselves, recorded_rows):
         for name, is_well, told in rows(program, folder):
-            print(f"oncrpc call, {name}: {'as it should' if is_well else told}", flush=True)
-            yield bool(is_well)
+            yield tell(f"oncrpc call, {name}", is_well, told)
     for rows in (early_rows, refused_rows, refused_pings, placed_rows) if heap else ():
         for name, is_well, told in rows(program, folder, heap):
-            print(f"oncrpc call, {name}: {'as it should' if is_well else told}", flush=True)
-            yield bool(is_well)
+            yield tell(f"oncrpc call, {name}", is_well, told)

@@ -14,6 +14,11 @@ import sys
 import threading
 import time
 
+sys.dont_write_bytecode = True
+sys.path.insert(0, os.path.dirname(os.path.dirname(os.path.realpath(__file__))))
+
+from telling import tell
+
 HOST = "127.0.0.1"
 WAIT = 20
 FIRST = re.compile(rb"listening on 127\.0\.0\.1 (\d+)\n")
@@ -338,8 +343,7 @@ def kept_rows(program, heap):
     some = [at_once, lines, reset, full, idle, bounded]
     for rows in [*some, lambda it: growths(it, heap)] if heap else some:
         for name, is_well, told in rows(program):
-            print(f"oncrpc serve, {name}: {'as it should' if is_well else told}", flush=True)
-            yield bool(is_well)
+            yield tell(f"oncrpc serve, {name}", is_well, told)
 
 
 if __name__ == "__main__":

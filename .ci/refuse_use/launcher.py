@@ -8,6 +8,7 @@ import sys
 import time
 
 from refuse_use.standins import CRATES, Tree
+from telling import tell
 
 DO = rb"`./oncrpc prove` proves and builds it\n"
 UNPROVED = rb"oncrpc: not proved yet: each call compiles the unproved program, about two minutes of a processor; "
@@ -44,8 +45,7 @@ NEEDS = {
 
 
 def row(what, well, *found):
-    print(f"{what}: {'as it should' if well else found}")
-    return well
+    return tell(what, well, found)
 
 
 def is_answer(got, status, output, faults, calls):

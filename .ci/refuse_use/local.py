@@ -17,6 +17,7 @@ sys.dont_write_bytecode = True
 sys.path.insert(0, os.path.dirname(os.path.dirname(os.path.realpath(__file__))))
 
 from refuse_use.keeping import HOST, WAIT, Kept, call, is_answered, marked, read, replied
+from telling import tell
 
 NOBODY = 65534
 # A user's call is that of AUTH_SYS: its uid, and nothing else.
@@ -200,6 +201,5 @@ def local_rows(program, heap):
         umask = os.umask(0o022)
         with tempfile.TemporaryDirectory() as folder:
             for name, is_well, told in rows(program, folder):
-                print(f"oncrpc serve --local, {name}: {'as it should' if is_well else told}", flush=True)
-                yield bool(is_well)
+                yield tell(f"oncrpc serve --local, {name}", is_well, told)
         os.umask(umask)

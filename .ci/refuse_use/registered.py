@@ -17,6 +17,7 @@ sys.path.insert(0, os.path.dirname(os.path.dirname(os.path.realpath(__file__))))
 from refuse_use.answering import Server, endless, garbage, silent
 from refuse_use.called import DECLARED, HOST, PROGRAM, marked, opaque, run, success, words
 from refuse_use.refusing import first_growth, swept
+from telling import tell
 
 REGISTRY = 100000
 # What the registry's versions 4, 3 and 2 answer to the question, None for PROG_MISMATCH; which of them are asked, and
@@ -196,7 +197,10 @@ def registered_rows(program, heap):
         said = subprocess.run([*own, *words_of_it], capture_output=True, text=True, timeout=1800, check=False)
     print(said.stdout + said.stderr, end="")
     told = re.search(r"^(\d+) well of (\d+)$", said.stdout, re.M)
-    well, count = (int(told[1]), int(told[2])) if told else (0, 1)
+    if not told:
+        yield tell("calls by a registry at port 111", False, said)
+        return
+    well, count = int(told[1]), int(told[2])
     for number in range(count):
         yield number < well
 
@@ -210,8 +214,7 @@ def main(program, heap):
         told_rows = (answered_rows, answered_over_6, mapped_rows, lost_rows, placed_rows, pinged_rows)
         for rows in (*told_rows, hindered_rows, swept_rows):
             for name, is_well, told in rows(program, folder):
-                print(f"oncrpc call, {name}: {'as it should' if is_well else told}", flush=True)
-                well.append(bool(is_well))
+                well.append(tell(f"oncrpc call, {name}", is_well, told))
     print(f"{well.count(True)} well of {len(well)}")
 
 

@@ -7,7 +7,7 @@ import tempfile
 from rows.shared import Case
 
 from .large import chained
-from .running import PROGRAM, line_of, told_of
+from .running import PROGRAM, line_of, tell, told_of
 
 # A name among n is found in a map in steps that rise as the logarithm of n does, so that 12,000 names take 2.16 times
 # what 6,000 do. A walk of the whole path for each name makes it up to 4 times.
@@ -34,5 +34,5 @@ def counted_chain(name):
     texts = [chained(count) for count in (12000, 6000)]
     whole, half = [instructions(Case("Task::Check", kind="int", text=text, types="a.x")) for text in texts]
     is_well = bool(whole and half) and whole <= MOST * half
-    print(f"{name}: 2 runs, {0 if is_well else 1} wrong answers", *(() if is_well else (whole, half)), flush=True)
+    tell(f"{name}: 2 runs, {0 if is_well else 1} wrong answers", is_well, *(() if is_well else (whole, half)))
     return is_well

@@ -111,5 +111,11 @@ def judged(name, rows, stack=None, room=None, seconds=None, **variables):
     for (case, is_well), told in zip(rows, run([case for case, _ in rows], stack, room, seconds, **variables)):
         if not is_told_well(is_well, told):
             bad.append((line_of(case)[:600], str(told)[:600]))
-    print(f"{name}: {len(rows)} runs, {len(bad)} wrong answers", *bad[:3], flush=True)
-    return bool(rows) and not bad
+    is_well = bool(rows) and not bad
+    tell(f"{name}: {len(rows)} runs, {len(bad)} wrong answers", is_well, *bad[:3])
+    return is_well
+
+
+def tell(line, is_well, *found):
+    """Prints the line of a row. By its beginning the gate finds one that failed, as by .ci/telling.py."""
+    print(f"{'' if is_well else 'FAILED: '}{line}", *found, flush=True)
