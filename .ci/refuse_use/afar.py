@@ -15,6 +15,7 @@ sys.dont_write_bytecode = True
 sys.path.insert(0, os.path.dirname(os.path.dirname(os.path.realpath(__file__))))
 
 from telling import tell
+from timing import WAIT
 
 HERE, AFAR, LOOPBACK = "10.9.8.8", "10.9.8.7", "127.0.0.1"
 # The networks of the addresses, in the namespace.
@@ -87,7 +88,7 @@ def ask(source, target, transport, message):
     """The reply to one call."""
     kind = socket.SOCK_STREAM if transport == "tcp" else socket.SOCK_DGRAM
     with socket.socket(type=kind) as asking:
-        asking.settimeout(20)
+        asking.settimeout(WAIT)
         asking.bind((source, 0))
         # A datagram comes from the address that the system picks, and not from the one that was asked.
         if transport == "udp":

@@ -3,6 +3,7 @@
 Expected bytes are those of RFC 5531 sections 9 and 11 and of RFC 1833 section 3. A client is a connection over loopback.
 """
 import contextlib
+import fcntl
 import os
 import re
 import resource
@@ -11,6 +12,7 @@ import socket
 import struct
 import subprocess
 import sys
+import termios
 import threading
 import time
 
@@ -18,9 +20,9 @@ sys.dont_write_bytecode = True
 sys.path.insert(0, os.path.dirname(os.path.dirname(os.path.realpath(__file__))))
 
 from telling import tell
+from timing import SOON, WAIT, in_time
 
 HOST = "127.0.0.1"
-WAIT = 20
 FIRST = re.compile(rb"listening on 127\.0\.0\.1 (\d+)\n")
 
 
@@ -97,12 +99,13 @@ class Kept:
         return socket.create_connection((HOST, self.port), WAIT)
 
     def asked(self, message, seconds=WAIT):
-        """What a datagram is answered."""
-        with socket.socket(type=socket.SOCK_DGRAM) as asking:
+        """What a datagram is answered; nothing where the time is up."""
+        with contextlib.suppress(OSError), socket.socket(type=socket.SOCK_DGRAM) as asking:
             asking.settimeout(seconds)
             asking.connect((HOST, self.port))
             asking.send(message)
             return asking.recv(65536)
+        return b""
 
 
 def read(made, count, seconds=WAIT):
@@ -182,7 +185,7 @@ def hindering(kept):
 def at_once(program):
     """Each of 300 clients that come at once gets its 16 replies, in their order, beside those that hinder; and so does
     who asks by a datagram."""
-    with Kept(program) as kept, hindering(kept), contextlib.ExitStack() as opened:
+    with Kept(program, "--idle", "3600") as kept, hindering(kept), contextlib.ExitStack() as opened:
         clients = [opened.enter_context(kept.client()) for _ in range(300)]
         for number, made in enumerate(clients):
             made.sendall(b"".join(marked(call(number * 16 + it)) for it in range(16)))
@@ -210,7 +213,7 @@ def lines(program):
         (marked(call(1)) + b"\x80\x00\x00\x28abc", "Truncated at 51"),
         (b"", "0 records, 0 replies"),
     ]
-    with Kept(program, "--verbose", "--idle", "1") as kept:
+    with Kept(program, "--verbose", "--idle", "3600") as kept:
         wanted = []
         for number, (bytes_sent, line) in enumerate(sent, 1):
             with kept.client() as made:
@@ -218,36 +221,53 @@ def lines(program):
                 made.sendall(bytes_sent)
                 made.shutdown(socket.SHUT_WR)
                 read(made, 1 << 20)
-        with kept.client() as made:
-            wanted.append(f"connection {len(sent) + 1} from {HOST}:{made.getsockname()[1]}: Idle\n")
-            idle = is_closed(made)
         # A connection is closed before its line is written.
         told = kept.lines(len(wanted))
         said = kept.end(signal.SIGINT)
-    well = idle and told == "".join(wanted).encode() and said == (-signal.SIGINT, b"", b"")
-    yield "the line of each connection, and SIGINT", well, (idle, told, said, wanted)
+    well = told == "".join(wanted).encode() and said == (-signal.SIGINT, b"", b"")
+    yield "the line of each connection, and SIGINT", well, (told, said, wanted)
+    with Kept(program, "--verbose", "--idle", "1") as kept, kept.client() as made:
+        wanted = f"connection 1 from {HOST}:{made.getsockname()[1]}: Idle\n"
+        is_idle, told = is_closed(made), kept.lines(1)
+    yield "the line of one that says nothing", is_idle and told == wanted.encode(), (is_idle, told, wanted)
 
 
 def reset(program):
     """Clients that reset their connection, the second while replies wait: each ends alone, and has its line."""
-    with Kept(program, "--verbose") as kept, kept.client() as other:
-        for number, (begin, fault) in enumerate(((call_unread, "Read"), (call_greedily, "Write")), 2):
-            with kept.client() as made:
-                wanted = f"connection {number} from {HOST}:{made.getsockname()[1]}: {fault}\n"
-                begin(made)
-                time.sleep(1)
-                # Closed so it is reset.
-                made.setsockopt(socket.SOL_SOCKET, socket.SO_LINGER, struct.pack("ii", 1, 0))
-            told = kept.lines(1)
-            is_well = told == wanted.encode() and is_answered(other, number)
-            yield f"a connection that is reset, {fault}", is_well, (told, wanted)
+    for begin, fault in ((call_unread, "Read"), (call_greedily, "Write")):
+        yield f"a connection that is reset, {fault}", *in_time(lambda: is_reset(program, begin, fault))
+
+
+def is_reset(program, begin, fault):
+    """Whether the line of a connection that is reset tells this fault, and another connection is answered still."""
+    with Kept(program, "--verbose", "--idle", "3600") as kept, kept.client() as other:
+        with kept.client() as made:
+            wanted = f"connection 2 from {HOST}:{made.getsockname()[1]}: {fault}\n"
+            begin(made)
+            wait_for_quiet(made)
+            # Closed so it is reset.
+            made.setsockopt(socket.SOL_SOCKET, socket.SO_LINGER, struct.pack("ii", 1, 0))
+        told = kept.lines(1)
+        return told == wanted.encode() and is_answered(other, 2), (told, wanted)
+
+
+def wait_for_quiet(made):
+    """Waits until for a second nothing has come over a connection, and none of what was sent was taken."""
+    before, until, end = None, 0, time.monotonic() + WAIT
+    while time.monotonic() < min(until, end) or before is None:
+        waiting = [fcntl.ioctl(made, it, bytes(4)) for it in (termios.FIONREAD, termios.TIOCOUTQ)]
+        before, until = waiting, until if waiting == before else time.monotonic() + 1
+        time.sleep(0.05)
 
 
 def held(kept, clients, name):
     """Of clients that all call some are answered, and the others once as many have gone."""
     for number, made in enumerate(clients):
         made.sendall(marked(call(number)))
-    first = [made for number, made in enumerate(clients) if read(made, 28, 0.2) == marked(replied(number))]
+    # (the first is answered, however late; of the others those are, or are not yet, for which the time is short)
+    seconds = [WAIT, *[0.2] * len(clients)]
+    got = [read(made, 28, seconds[number]) == marked(replied(number)) for number, made in enumerate(clients)]
+    first = [made for made, is_answer in zip(clients, got) if is_answer]
     said = kept.asked(call(7))
     later = [made for made in clients if made not in first]
     for made in first:
@@ -267,20 +287,26 @@ def full(program):
 
 def idle(program):
     """Those that hinder go after the time; who calls stays."""
-    with Kept(program, "--idle", "1") as kept, kept.client() as caller, hindering(kept) as hinderers:
-        began, well = time.monotonic(), []
-        while time.monotonic() < began + 4:
-            well.append(is_answered(caller, len(well)))
-            time.sleep(0.3)
-        silent, slow, half, _ = hinderers
-        gone = [is_closed(made, 1) for made in (silent, slow, half)]
-        yield "who calls stays, the others go", all(well) and all(gone), (well, gone)
+    yield "who calls stays, the others go", *in_time(lambda: is_left_alone(program))
+
+
+def is_left_alone(program, seconds=3):
+    """Whether who calls all the time is answered for twice the time after which idle connections go, and these go."""
+    well, gone = [], []
+    with contextlib.suppress(OSError), Kept(program, "--idle", str(seconds)) as kept:
+        with kept.client() as caller, hindering(kept) as (silent, slow, half, _):
+            began = time.monotonic()
+            while time.monotonic() < began + 2 * seconds + 1:
+                well.append(is_answered(caller, len(well)))
+                time.sleep(0.3)
+            gone = [is_closed(made, SOON) for made in (silent, slow, half)]
+    return all(well) and gone == [True] * 3, (well, gone)
 
 
 def bounded(program):
     """The same by a process of its own, since a program begins with the memory of the one that starts it."""
     words = [sys.executable, "-B", os.path.realpath(__file__), program]
-    said = subprocess.run(words, capture_output=True, text=True, timeout=120, check=False)
+    said = subprocess.run(words, capture_output=True, text=True, check=False)
     yield "32 clients that take no replies", said.stdout == "True\n", (said.stdout, said.stderr)
 
 
@@ -299,7 +325,7 @@ def holds_little(program):
             took = time.monotonic() - began
         most = kept.peak()
         # Beside the program and its rows each holds what it reads and writes, and a list of 1024 rows of 20 bytes.
-        return sets == marked(replied(1, 1)) * 1018 and well and took < 5 and most < 16 << 20
+        return sets == marked(replied(1, 1)) * 1018 and well and took < 2 * SOON and most < 16 << 20
 
 
 def growths(program, heap):

@@ -16,8 +16,9 @@ import tempfile
 sys.dont_write_bytecode = True
 sys.path.insert(0, os.path.dirname(os.path.dirname(os.path.realpath(__file__))))
 
-from refuse_use.keeping import HOST, WAIT, Kept, call, is_answered, marked, read, replied
+from refuse_use.keeping import HOST, Kept, call, is_answered, marked, read, replied
 from telling import tell
+from timing import WAIT
 
 NOBODY = 65534
 # A user's call is that of AUTH_SYS: its uid, and nothing else.
