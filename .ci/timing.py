@@ -3,6 +3,8 @@ import time
 
 # The seconds that are waited for what a fault alone keeps away, and those within which a run is to end that hangs else.
 WAIT, SOON = 120, 30
+# The seconds after which a command is ended that takes a second or two where nothing else runs.
+LIMIT = 600
 # How often a row of these is tried.
 TRIES = 3
 

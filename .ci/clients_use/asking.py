@@ -4,13 +4,14 @@ import json
 import subprocess
 
 from telling import tell
+from timing import LIMIT
 
 HOST, SIX = "127.0.0.1", "::1"
 
 
 def ask(words, given=None):
     """The status and both streams of a command."""
-    ended = subprocess.run(words, capture_output=True, text=True, timeout=60, check=False, input=given)
+    ended = subprocess.run(words, capture_output=True, text=True, timeout=LIMIT, check=False, input=given)
     return ended.returncode, ended.stdout, ended.stderr
 
 

@@ -6,10 +6,10 @@ import os
 import re
 import shutil
 import subprocess
-import time
 
 from clients_use.asking import HOST, Caller, ask, has_answered, rows_of, told
 from telling import tell
+from timing import WAIT, wait_until
 
 SETTINGS = """NFS_CORE_PARAM {
     NFS_Protocols = 3, 4; mount_path_pseudo = true; Enable_NLM = false; Enable_RQUOTA = false;
@@ -50,10 +50,7 @@ class Ganesha:
         self.process = subprocess.Popen(words, stdout=subprocess.DEVNULL, stderr=subprocess.DEVNULL)
 
     def __enter__(self):
-        for _ in range(600):
-            if ask(["showmount", "-e", HOST])[0] == 0:
-                break
-            time.sleep(0.1)
+        wait_until(lambda: ask(["showmount", "-e", HOST])[0] == 0, 2 * WAIT)
         return self
 
     def __exit__(self, *_):

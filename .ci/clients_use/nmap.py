@@ -4,6 +4,7 @@ import re
 import shutil
 
 from clients_use.asking import HOST, ask, rows_of, told
+from timing import in_time
 
 # A line of the script: program, versions, port and netid.
 LINE = re.compile(r"\|_? +(\d+) +([\d,]+) +(\d+)/(\w+)")
@@ -28,7 +29,13 @@ def nmap_rows(_program, _root, _folder, whose):
     """The rows, over TCP and over UDP."""
     lines = wanted()
     for scan in ("-sT", "-sU"):
-        said = ask(["nmap", "-n", "-Pn", scan, "-p", "111", "--script", "rpcinfo", HOST])
-        got = sorted(it.groups() for it in LINE.finditer(said[1]))
+        got, said = in_time(lambda: scanned(scan, lines))[1:]
         name = f"nmap {scan} --script rpcinfo of {whose}, {len(lines)} lines"
         yield told(name, got if lines else said, lines, "rpcinfo")
+
+
+def scanned(scan, lines):
+    """Whether the script lists these lines, those that it lists, and what nmap gives: it waits for seconds alone."""
+    said = ask(["nmap", "-n", "-Pn", scan, "-p", "111", "--script", "rpcinfo", HOST])
+    got = sorted(it.groups() for it in LINE.finditer(said[1]))
+    return got == lines, got, said

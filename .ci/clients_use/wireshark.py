@@ -5,9 +5,9 @@ import os
 import shutil
 import socket
 import subprocess
-import time
 
 from clients_use.asking import HOST, Caller, ask, rows_of, told
+from timing import WAIT, wait_until
 
 # What shows that tshark could not read a message.
 FAULTS = "_ws.malformed || rpc.cannot_dissect || rpc.fragment.error"
@@ -39,14 +39,16 @@ class Capture:
 
     def mark(self, text):
         """Waits until the file has a datagram of this text, and so all that went before it."""
-        for _ in range(600):
-            with socket.socket(type=socket.SOCK_DGRAM) as marking:
-                marking.sendto(text, (HOST, MARKS))
-            time.sleep(0.1)
-            if os.path.exists(self.path):
-                with open(self.path, "rb") as it:
-                    if text in it.read():
-                        return
+        wait_until(lambda: self.has(text), 2 * WAIT)
+
+    def has(self, text):
+        """Sends a datagram of this text, and says whether the file has one."""
+        with socket.socket(type=socket.SOCK_DGRAM) as marking:
+            marking.sendto(text, (HOST, MARKS))
+        if not os.path.exists(self.path):
+            return False
+        with open(self.path, "rb") as it:
+            return text in it.read()
 
     def __enter__(self):
         self.mark(b"the capture has begun")
@@ -94,7 +96,8 @@ def messages(path):
     for line in ask([*words, *(word for it in named for word in ("-e", it))])[1].splitlines():
         read = {name: it.split(",") if it else [] for name, it in zip(named, line.split("\t"))}
         kind = calls if read["rpc.msgtyp"] == ["0"] else replies
-        kind[read["rpc.xid"][0]] = {**read, "name": " ".join(read["_ws.col.Info"][0].split()[:2])}
+        # (of one that was sent again the first, since the name of the others is behind a note of that)
+        kind.setdefault(read["rpc.xid"][0], {**read, "name": " ".join(read["_ws.col.Info"][0].split()[:2])})
     return calls, replies
 
 

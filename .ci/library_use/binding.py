@@ -6,6 +6,8 @@ import socket
 import struct
 import sys
 
+from timing import WAIT
+
 from .registries import ASK_FROM, ask_connection, ask_datagrams, call, reply, started
 from .running import C, ROOT, compiled, passed, run, tools
 
@@ -33,7 +35,7 @@ def read_record(connection):
 def ask(family, address, *messages):
     """The replies to records over one connection, one after another."""
     with socket.socket(family) as asking:
-        asking.settimeout(60)
+        asking.settimeout(WAIT)
         asking.connect(address)
         said = []
         for message in messages:
@@ -57,7 +59,7 @@ def owned(path, port):
 
 def hindered(port):
     """A client that says nothing, one that says half a record, and one that reads nothing, which ask on and on."""
-    silent, half, unread = (socket.create_connection(("127.0.0.1", port), 60) for _ in range(3))
+    silent, half, unread = (socket.create_connection(("127.0.0.1", port), WAIT) for _ in range(3))
     half.sendall(record(call(4))[:20])
     unread.settimeout(1)
     sent, asked = 0, record(call(4)) * UNREAD
@@ -66,6 +68,7 @@ def hindered(port):
             sent += unread.send(asked[sent:])
     except TimeoutError:
         pass
+    unread.settimeout(WAIT)
     return silent, half, unread
 
 
@@ -73,18 +76,18 @@ def crowded(port):
     """As many connections as are taken: one more has no answer before one of them ends."""
     _, hard = resource.getrlimit(resource.RLIMIT_NOFILE)
     resource.setrlimit(resource.RLIMIT_NOFILE, (min(4096, hard), hard))
-    crowd = [socket.create_connection(("127.0.0.1", port), 60) for _ in range(MOST)]
+    crowd = [socket.create_connection(("127.0.0.1", port), WAIT) for _ in range(MOST)]
     try:
         crowd[-1].sendall(record(call(0)))
         is_served = read_record(crowd[-1]) == reply()
-        with socket.create_connection(("127.0.0.1", port), 60) as late:
+        with socket.create_connection(("127.0.0.1", port), WAIT) as late:
             late.sendall(record(call(0)))
             late.settimeout(0.5)
             try:
                 return read_record(late) and False
             except TimeoutError:
                 crowd.pop().close()
-            late.settimeout(60)
+            late.settimeout(WAIT)
             return is_served and read_record(late) == reply()
     finally:
         for it in crowd:
@@ -109,14 +112,14 @@ def bound(library, room):
                 it.close()
             answers += [] if tool else [crowded(port)]
             server.send_signal(signal.SIGTERM)
-            status = server.wait(60)
+            status = server.wait(WAIT)
         is_well = all(answers) and status == 0 and not os.path.exists(path)
         yield passed(name, is_well, (answers, status))
 
 
 # Sends a record over IPv6 to a registry, and prints the reply with its header.
 ASK_OVER_6 = """import socket, sys
-with socket.create_connection(("::1", 111), 60) as asking:
+with socket.create_connection(("::1", 111), 120) as asking:
     asking.sendall(bytes.fromhex(sys.argv[1]))
     print(asking.recv(65536).hex())
 """
@@ -126,7 +129,7 @@ with socket.create_connection(("::1", 111), 60) as asking:
 ASK_AT = """import socket, sys
 source, target, call = sys.argv[1:]
 with socket.socket(socket.AF_INET, socket.SOCK_DGRAM) as asking:
-    asking.settimeout(60)
+    asking.settimeout(120)
     asking.bind((source, 0))
     asking.connect((target, 111))
     asking.send(bytes.fromhex(call))
@@ -149,8 +152,8 @@ def asked_by_clients(room):
         print("libtirpc-dev, or a root who may take another uid, is not there: clients of rpcbind.c are skipped")
         return
     inside = """ip link set lo up && ip address add 10.9.8.7/32 dev lo && mount -t tmpfs none /run || exit 1
-        "$1/rpcbind" 111 /run/rpcbind.sock >/dev/null & pid=$!
-        sleep 1
+        "$1/rpcbind" 111 /run/rpcbind.sock >/run/said & pid=$!
+        until [ -s /run/said ] || ! kill -0 $pid; do sleep 0.05; done
         for host in 10.9.8.7 127.0.0.1 10.9.8.7; do "$0" -c "$2" "$host" "$4" "$5"; done
         "$0" -c "$3" "$6"
         "$0" -c "$7" 127.0.0.1 10.9.8.7 "$8"

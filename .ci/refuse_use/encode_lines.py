@@ -11,6 +11,7 @@ from rows.json_grammar import INVALID, OPEN, VALID, WELL_FORMED
 from rows.json_read import LIMITED, READ, REFUSED
 from rows.json_texts import INDENTED, JSON
 from telling import tell
+from timing import LIMIT
 
 FILE = "file.x"
 # A text of this many bytes is the longest for a value of four bytes: 16 for each of them, and 1048576 more.
@@ -45,7 +46,7 @@ SAID = [
 
 def ended(program, folder, words, given, stack="unlimited"):
     shell = ["sh", "-c", f"ulimit -s {stack}; exec '{program}' {words}"]
-    got = subprocess.run(shell, cwd=folder, input=given, capture_output=True, timeout=60)
+    got = subprocess.run(shell, cwd=folder, input=given, capture_output=True, timeout=LIMIT)
     return got.returncode, got.stdout, got.stderr
 
 

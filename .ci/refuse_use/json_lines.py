@@ -10,6 +10,7 @@ sys.path.append(f"{ROOT}/tests")
 from judges.json_texts import is_deep_json
 from rows.json_texts import INDENTED, JSON
 from telling import tell
+from timing import LIMIT
 
 # The kinds that no text of declarations names.
 OWN = ("own", "void")
@@ -37,7 +38,7 @@ DEEPEST = [
 
 def ended(program, folder, words, given, stack="unlimited"):
     shell = ["sh", "-c", f"ulimit -s {stack}; exec '{program}' show --json {words}"]
-    got = subprocess.run(shell, cwd=folder, input=given, capture_output=True, timeout=60)
+    got = subprocess.run(shell, cwd=folder, input=given, capture_output=True, timeout=LIMIT)
     return got.returncode, got.stdout, got.stderr
 
 

@@ -7,9 +7,9 @@ import signal
 import sys
 import time
 
-from refuse_use.standins import CRATES, LIMIT, UNTIL_UNREAD, Tree
+from refuse_use.standins import CRATES, UNTIL_UNREAD, Tree
 from telling import tell
-from timing import wait_until
+from timing import LIMIT, wait_until
 
 DO = rb"`./oncrpc prove` proves and builds it\n"
 UNPROVED = rb"oncrpc: not proved yet: each call compiles the unproved program, about two minutes of a processor; "

@@ -9,8 +9,8 @@ import socket
 import time
 
 from refuse_use.launcher import BEGUN, FROM, KEPT, NOT_BUILT, PAIRS, TOOK, WAITS, lists_of, row
-from refuse_use.standins import LIMIT, RT, Tree
-from timing import wait_until
+from refuse_use.standins import RT, Tree
+from timing import LIMIT, wait_until
 
 NOT_PROVED = rb"oncrpc: %s is not proved\n"
 KILLED = rb"oncrpc: not built: the proof was killed\n"

@@ -5,6 +5,7 @@ import subprocess
 
 from refuse_use.recorded import RECORDED, SERVED
 from telling import tell
+from timing import LIMIT
 
 ROOT = os.path.dirname(os.path.dirname(os.path.dirname(os.path.realpath(__file__))))
 # A text, and those of .ci/declarations that declare the same procedures, as their RFCs have them.
@@ -38,7 +39,7 @@ RPCGENS = [
 def declared(program, path, *words):
     """The procedures that a text declares, and the kind and the counts of bytes of each argument and result."""
     asked = [program, "types", *words, "--types", path]
-    ended = subprocess.run(asked, capture_output=True, text=True, timeout=60, check=False)
+    ended = subprocess.run(asked, capture_output=True, text=True, timeout=LIMIT, check=False)
     lines = [line.split() for line in ended.stdout.splitlines()]
     named = {line[2]: [] for line in lines if line[0] == "procedure"}
     return {**named, **{line[1]: line[3:] for line in lines if line[0] in ("argument", "result")}}
@@ -78,7 +79,7 @@ def share_rows(program):
             if digits:
                 at = f"{NUMBERS[name]}.{version}.{procedure}.{part}"
                 words = ["check", "--hex", "--types", f"{ROOT}/share/oncrpc/{name}.x", "--name", at]
-                how = {"input": digits.encode(), "capture_output": True, "timeout": 60, "check": False}
+                how = {"input": digits.encode(), "capture_output": True, "timeout": LIMIT, "check": False}
                 said = subprocess.run([program, *words], **how).stdout
                 well = said == b"ok %d\n" % (len(digits) // 2)
                 yield tell(f"{at} as recorded", well, said)

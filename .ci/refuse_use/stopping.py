@@ -5,8 +5,8 @@ import signal
 
 from refuse_use.launcher import BEGUN, BUILT, FROM, PROOF_STOPPED, lists_of, row
 from refuse_use.proving import PROVE, WAITING, hooked, is_free
-from refuse_use.standins import LIMIT, Tree
-from timing import WAIT, wait_until
+from refuse_use.standins import Tree
+from timing import LIMIT, WAIT, wait_until
 
 BEGINS = FROM % (6, 1)
 # Checks that hang, that a signal does not end, that take their time to end, and that have begun another command.

@@ -12,6 +12,7 @@ sys.path[:0] = [HERE, os.path.dirname(HERE)]
 
 from second_reading import Reading
 from telling import tell
+from timing import LIMIT
 
 ROOT = os.path.dirname(os.path.dirname(os.path.dirname(os.path.realpath(__file__))))
 # Texts, their lines and their JSON, worked by hand: the numbers on both sides of 2^53 and of 2^64, each kind, a default
@@ -78,7 +79,7 @@ WORKED = [
 
 
 def printed(program, folder, words):
-    got = subprocess.run([program, "types", *words], cwd=folder, capture_output=True, timeout=60)
+    got = subprocess.run([program, "types", *words], cwd=folder, capture_output=True, timeout=LIMIT)
     return got.returncode, got.stdout.decode(), got.stderr.decode()
 
 

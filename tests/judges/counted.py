@@ -20,7 +20,7 @@ def instructions(case):
     with tempfile.TemporaryDirectory() as folder:
         words = ["valgrind", "--tool=callgrind", f"--callgrind-out-file={folder}/out", PROGRAM]
         given = line_of(case).encode() + b"\n"
-        ended = subprocess.run(words, input=given, capture_output=True, timeout=600)
+        ended = subprocess.run(words, input=given, capture_output=True, timeout=3600)
     told = told_of(ended.stdout.decode().partition("\n")[0])
     found = re.search(rb"Collected : (\d+)", ended.stderr)
     return int(found[1]) if found and (told.answer, told.streams) == WANTED else None

@@ -76,7 +76,7 @@ def run_by(program, cases, limits, variables):
     """What one program tells of each case, in one run."""
     given = "".join(line_of(case) + "\n" for case in cases).encode()
     words = ["sh", "-c", f"{limits}exec '{program}'"]
-    ended = subprocess.run(words, input=given, capture_output=True, env={**os.environ, **variables}, timeout=600)
+    ended = subprocess.run(words, input=given, capture_output=True, env={**os.environ, **variables}, timeout=3600)
     lines = ended.stdout.decode().split("\n")[:-1]
     lines += [f"ended with {ended.returncode}"] * (len(cases) - len(lines))
     return [told_of(line) for line in lines]
