@@ -8,7 +8,7 @@ import threading
 import time
 
 from refuse_use.called import HOST, XID, marked, success, words
-from timing import WAIT
+from timing import WAIT, wait_until
 
 # Another address of this host.
 OTHER = "127.0.0.2"
@@ -32,19 +32,24 @@ class Server:
 
     def __exit__(self, *_):
         self.open = False
-        # (an empty datagram and a connection end the waits for them, behind all that came before and was not read yet)
-        with contextlib.suppress(OSError), socket.socket(self.family, socket.SOCK_DGRAM) as waking:
-            waking.sendto(b"", self.datagrams.getsockname())
+        # (a connection and an empty datagram end the waits for them, behind all that came before and was not read yet;
+        # where more has come than is kept, a datagram can be lost)
         with contextlib.suppress(OSError), socket.socket(self.family) as waking:
             waking.bind((self.host, 0))
             self.last = waking.getsockname()
             waking.connect(self.stream.getsockname())
-        for thread in self.threads:
-            thread.join(WAIT)
-        for thread in self.serving:
+        wait_until(self.is_awake)
+        for thread in (*self.threads, *self.serving):
             thread.join(WAIT)
         self.stream.close()
         self.datagrams.close()
+
+    def is_awake(self):
+        """Ends the wait for datagrams, and says whether it has ended."""
+        with contextlib.suppress(OSError), socket.socket(self.family, socket.SOCK_DGRAM) as waking:
+            waking.sendto(b"", self.datagrams.getsockname())
+        self.threads[1].join(0.01)
+        return not self.threads[1].is_alive()
 
     def accept(self):
         with contextlib.suppress(OSError):

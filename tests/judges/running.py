@@ -104,13 +104,33 @@ def is_told_well(is_well, told):
         return False
 
 
-def judged(name, rows, stack=None, room=None, seconds=None, **variables):
+def judged(name, rows, stack=None, room=None, **variables):
     """Runs pairs of a case and a judge, and says whether all are well."""
+    return told_of_wrong(name, *wrong_of(rows, stack, room, None, **variables))
+
+
+def judged_in(seconds, name, cases):
+    """The same in so many processor seconds. It has three tries, of which one is enough: what a host takes of a processor
+    can be counted as the program's time, while a fault takes too long each time."""
+    for _ in range(3):
+        rows, bad = wrong_of(cases(), None, None, seconds)
+        if rows and not bad:
+            break
+    return told_of_wrong(f"{name}, {seconds} processor seconds", rows, bad)
+
+
+def wrong_of(rows, stack, room, seconds, **variables):
+    """The pairs, and each case that is not well with what is told of it."""
     rows = list(rows)
     bad = []
     for (case, is_well), told in zip(rows, run([case for case, _ in rows], stack, room, seconds, **variables)):
         if not is_told_well(is_well, told):
             bad.append((line_of(case)[:600], str(told)[:600]))
+    return rows, bad
+
+
+def told_of_wrong(name, rows, bad):
+    """Prints the line of a row of so many runs, and says whether it is well."""
     is_well = bool(rows) and not bad
     tell(f"{name}: {len(rows)} runs, {len(bad)} wrong answers", is_well, *bad[:3])
     return is_well
