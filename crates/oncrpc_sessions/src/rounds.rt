@@ -113,7 +113,7 @@ impl Sockets {
     /// One round: waits until a socket is ready, at most a second where a client is there, and not at all while
     /// something is left to do. It accepts what waits, answers the datagrams that came, and gives each client turns.
     /// Those go that are done, or were idle for too long. An error is that of the wait or of the clock.
-    pub fn round<R: Clock, S: BuildHasher>(
+    pub fn round<R: Clock + Net, S: BuildHasher>(
         &mut self,
         rt: &R,
         table: &mut SessionTable,
@@ -124,7 +124,7 @@ impl Sockets {
         let now = self.wait(rt, table)?;
         self.note();
         self.accept(now, table);
-        self.datagrams.receive(table, directory);
+        self.datagrams.receive(rt, table, directory);
         self.turns(now, table, directory);
         Ok(())
     }
