@@ -4,6 +4,7 @@ file that stands at PATH.
 Expected bytes are those of RFC 5531 section 9 and of RFC 1833 section 2.2.1. The netid of a local socket is 'local', as
 /etc/netconfig of libtirpc has it.
 """
+import contextlib
 import os
 import signal
 import socket
@@ -113,6 +114,30 @@ def served(program, folder):
             yield "another user cannot connect", said == 7, said
 
 
+def places(program, folder):
+    """Connections over TCP and those at the socket take no place of the others."""
+    path = f"{folder}/socket"
+    with Kept(program, "--connections", "1", "--local", path) as kept, contextlib.ExitStack() as opened:
+        second_line(kept)
+        silent, other = (opened.enter_context(kept.client()) for _ in range(2))
+        said = is_answered(silent, 1), is_answered(other, 2, 0.5)
+        with at_path(path) as made:
+            well = said == (True, False) and says(made, SET, TRUE)
+        yield "SET beside a silent client that has the one place over TCP", well, said
+        clients = [opened.enter_context(at_path(path)) for _ in range(24)]
+        for number, made in enumerate(clients):
+            made.sendall(marked(call(number)))
+        first = [made for number, made in enumerate(clients) if read(made, 28, 0.2) == marked(replied(number))]
+        yield "16 places at the socket", len(first) == 16, len(first)
+        silent.close()
+        said = read(other, 28)
+        yield "beside them the next client over TCP", said == marked(replied(2)), said
+        for made in first:
+            made.close()
+        later = [read(made, 28) == marked(replied(number)) for number, made in enumerate(clients) if made not in first]
+        yield "and the others at the socket once these have gone", len(later) == 8 and all(later), later
+
+
 def refused(program, path):
     """What a program says that is asked for a socket at a path."""
     words = [program, "serve", "--port", "0", "--local", path]
@@ -195,7 +220,7 @@ def growths(program, heap, folder):
 
 def local_rows(program, heap):
     """The rows, each whether it is as it should be."""
-    some = [served, in_the_way]
+    some = [served, places, in_the_way]
     for rows in [*some, lambda it, folder: growths(it, heap, folder)] if heap else some:
         umask = os.umask(0o022)
         with tempfile.TemporaryDirectory() as folder:

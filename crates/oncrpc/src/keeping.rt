@@ -44,7 +44,7 @@ pub fn keep<O: Sink, F: Sink>(
     if let Err(failure) = print_begun(alloc, what, sockets.port(), output) {
         return report(failure, faults);
     }
-    let mut table = SessionTable::start(alloc, what.connections as usize, MOST_WAITING);
+    let mut table = SessionTable::start(alloc, bounds_of(what).most(), MOST_WAITING);
     for _ in 0..u64::MAX {
         if sockets.round(rt, &mut table, &mut directory).is_err() {
             return report_socket(faults);
@@ -78,13 +78,24 @@ fn set_local<S: BuildHasher>(
 // The sockets, at the address and the path that are asked for.
 fn bind(rt: &HostRuntime, what: &KeepTask) -> io::Result<Sockets> {
     let address = SocketAddr::new(IpAddr::V4(what.address), what.port);
-    let bounds = Bounds {
+    let local = what.local.as_deref();
+    Sockets::bind(
+        rt,
+        rt.alloc(),
+        address,
+        local,
+        bounds_of(what),
+        what.verbose,
+    )
+}
+
+// What the sockets hold at most.
+fn bounds_of(what: &KeepTask) -> Bounds {
+    Bounds {
         connections: what.connections as usize,
         idle: Duration::from_secs(what.idle as u64),
         trusts_remote: what.insecure,
-    };
-    let local = what.local.as_deref();
-    Sockets::bind(rt, rt.alloc(), address, local, bounds, what.verbose)
+    }
 }
 
 // Prints at which address and port both listen, and at which path.

@@ -1,3 +1,4 @@
 pub mod Callers
 pub mod Endings
 pub mod Loops
+pub mod Places

@@ -3,6 +3,7 @@ ghost use Rattle.std.specs.Prelude.{List};
 ghost use Rattle.registry_rows.specs.Rows.{Row};
 ghost use Rattle.oncrpc_sessions.specs.Loops.{Goes};
 
+use crate::bounds::{Bounds, Room, room_within};
 use crate::client::Client;
 use crate::clients::Clients;
 use crate::datagrams::Datagrams;
@@ -32,17 +33,6 @@ const MOST_AT_ONCE: u32 = 64;
 
 /// For how many seconds a round waits at most where a client is there, and how often idle ones are looked for.
 const LONGEST_WAIT: u64 = 1;
-
-/// What a registry's sockets hold at most.
-#[derive(Clone, Copy, Debug, PartialEq, Eq)]
-pub struct Bounds {
-    /// How many connections may be open at a time. Others wait, and none of them is refused.
-    pub connections: usize,
-    /// How long a connection may stay that makes no call and takes nothing of its replies.
-    pub idle: Duration,
-    /// SET and UNSET of callers of other hosts are taken.
-    pub trusts_remote: bool,
-}
 
 /// A registry's sockets: those that listen, one for datagrams, and those of the clients. Readiness is told once: what a
 /// socket was ready for stays noted until a call would block.
@@ -162,9 +152,15 @@ impl Sockets {
         }
     }
 
-    /// A connection may wait, and there is room for it.
+    /// Where there is room for one more connection.
+    fn room(&self, table: &SessionTable) -> Room {
+        let local = self.clients.local_count();
+        room_within(self.bounds, table.open_count().saturating_sub(local), local)
+    }
+
+    /// A connection may wait for which there is room.
     fn is_to_accept(&self, table: &SessionTable) -> bool {
-        self.listeners.is_busy() && table.open_count() < self.bounds.connections
+        self.listeners.is_busy(self.room(table))
     }
 
     /// Accepts what waits, where there is room.
@@ -183,7 +179,8 @@ impl Sockets {
         if !self.is_to_accept(table) {
             return;
         }
-        let Some(accepted) = self.listeners.accept() else {
+        let room = self.room(table);
+        let Some(accepted) = self.listeners.accept(room) else {
             return;
         };
         self.begin(accepted, now, table);

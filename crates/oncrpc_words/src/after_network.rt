@@ -59,7 +59,7 @@ that came from PEER has a line on standard error once it has ended:
                                N records were read, and M replies were made
   connection K from PEER: Idle it made no call and took no reply for SECONDS
 and the lines below from 'TooLong at N' on, but for TooManyReads. Where as many
-are open as may be, others wait.
+are open as may be, others wait; the socket of --local has 16 places of its own.
 
 With --count C, after 'listening on 127.0.0.1 PORT', it prints a line for each
 connection K, from 1, once it has ended, and after them a line for each datagram
