@@ -6,6 +6,8 @@ Expected bytes are those of RFC 5531 section 9 and of RFC 1833 section 2.2.1. Th
 """
 import contextlib
 import os
+import resource
+import shutil
 import signal
 import socket
 import stat
@@ -138,17 +140,18 @@ def places(program, folder):
         yield "and the others at the socket once these have gone", len(later) == 8 and all(later), later
 
 
-def refused(program, path):
+def refused(program, path, **more):
     """What a program says that is asked for a socket at a path."""
     words = [program, "serve", "--port", "0", "--local", path]
     try:
-        ran = subprocess.run(words, check=False, capture_output=True, timeout=WAIT)
+        ran = subprocess.run(words, check=False, capture_output=True, timeout=WAIT, **more)
     except subprocess.TimeoutExpired as it:
         return it.stdout
     return ran.returncode, ran.stdout, ran.stderr
 
 
-FAULT = 3, b"", b"socket fault\n"
+def fault(path, why):
+    return 3, b"", f"socket fault: {path}: {why}\n".encode()
 
 
 def in_the_way(program, folder):
@@ -158,7 +161,8 @@ def in_the_way(program, folder):
         second_line(kept)
         said = refused(program, path)
         with at_path(path) as made:
-            yield "a socket that is served stays", said == FAULT and is_answered(made, 1), said
+            well = said == fault(path, "address in use") and is_answered(made, 1)
+            yield "a socket that is served stays", well, said
         kept.end(signal.SIGKILL)
     left = os.path.exists(path)
     with Kept(program, "--local", path) as kept:
@@ -170,20 +174,28 @@ def in_the_way(program, folder):
         it.write(b"mine")
     said = refused(program, path)
     with open(path, "rb") as it:
-        yield "a file stays", said == FAULT and it.read() == b"mine", said
+        yield "a file stays", said == fault(path, "file exists") and it.read() == b"mine", said
     os.remove(path)
     os.symlink("elsewhere", path)
     said = refused(program, path)
-    yield "a link stays", said == FAULT and os.readlink(path) == "elsewhere", said
+    yield "a link stays", said == fault(path, "file exists") and os.readlink(path) == "elsewhere", said
     os.remove(path)
     os.mkdir(path)
     said = refused(program, path)
-    yield "a folder stays", said == FAULT and os.listdir(folder) == ["socket"], said
+    yield "a folder stays", said == fault(path, "file exists") and os.listdir(folder) == ["socket"], said
     os.rmdir(path)
     longest = f"{folder}/".ljust(98, "a")
-    for name, wrong in (("no folder", f"{folder}/none/socket"), ("99 bytes", f"{longest}a"), ("empty", "")):
+    wrongs = [
+        ("no folder", f"{folder}/none/socket", "no such file"),
+        ("99 bytes", f"{longest}a", "name too long"),
+        ("empty", "", "no such file"),
+        ("below a device", "/dev/null/socket", "not a directory"),
+    ]
+    for name, wrong, why in wrongs:
         said = refused(program, wrong)
-        yield name, said == FAULT and os.listdir(folder) == [], (said, os.listdir(folder))
+        yield name, said == fault(wrong, why) and os.listdir(folder) == [], (said, os.listdir(folder))
+    said = refused(program, path, preexec_fn=lambda: resource.setrlimit(resource.RLIMIT_NOFILE, (6, 6)))
+    yield "no descriptor", said == fault(path, "error 24") and os.listdir(folder) == [], (said, os.listdir(folder))
     with Kept(program, "--local", longest) as kept:
         second_line(kept)
         with at_path(longest) as made:
@@ -197,6 +209,18 @@ def in_the_way(program, folder):
             yield "a folder of the first name that is tried", well, os.listdir(folder)
 
 
+def forbidden(program, folder):
+    """A folder that the user may not enter; it is the superuser who can ask."""
+    if os.geteuid() == 0:
+        path, mine = f"{folder}/mine/socket", f"{folder}/oncrpc"
+        os.mkdir(os.path.dirname(path), 0o700)
+        shutil.copy(program, mine)
+        os.chmod(mine, 0o755)
+        os.chmod(folder, 0o755)
+        said = refused(mine, path, user=NOBODY, group=NOBODY, extra_groups=[])
+        yield "a folder of another user", said == fault(path, "permission denied"), said
+
+
 def growths(program, heap, folder):
     """With each growth refused it ends before it listens and leaves nothing, or it answers."""
     path, wrong, listened = f"{folder}/socket", [], 0
@@ -204,9 +228,9 @@ def growths(program, heap, folder):
         with Kept(program, "--local", path, LD_PRELOAD=heap, REFUSE_GROWTH=str(number)) as kept:
             second = second_line(kept) if kept.port else b""
             if not second:
-                ended = kept.process.wait(WAIT), kept.process.stderr.read()
-                if ended not in ((3, b"socket fault\n"), (4, b"out of memory\n")):
-                    wrong.append((number, ended))
+                said = kept.process.wait(WAIT), kept.process.stderr.read()
+                if said != (4, b"out of memory\n"):
+                    wrong.append((number, said))
                 continue
             listened += 1
             with at_path(path) as first, at_path(path) as made:
@@ -220,7 +244,7 @@ def growths(program, heap, folder):
 
 def local_rows(program, heap):
     """The rows, each whether it is as it should be."""
-    some = [served, places, in_the_way]
+    some = [served, places, in_the_way, forbidden]
     for rows in [*some, lambda it, folder: growths(it, heap, folder)] if heap else some:
         umask = os.umask(0o022)
         with tempfile.TemporaryDirectory() as folder:

@@ -5,9 +5,11 @@
 //!   turns, and lets those go that are done.
 //! - `listeners` accepts connections, also at the path that `local` makes a socket at; `whence` says who calls.
 //! - `client` is one client's socket, a `stream`, beside its session; `ending` what became of it.
+//! - `unheard` is why there are no sockets, and the `cause` of it.
 #![tactic(auto)]
 
 mod bounds;
+mod cause;
 mod client;
 mod clients;
 mod datagrams;
@@ -16,9 +18,12 @@ mod listeners;
 mod local;
 mod rounds;
 mod stream;
+mod unheard;
 mod whence;
 
 pub use bounds::Bounds;
+pub use cause::Cause;
 pub use ending::{Ending, Why};
 pub use rounds::Sockets;
+pub use unheard::{Place, Unheard};
 pub use whence::Whence;

@@ -10,6 +10,7 @@ use crate::datagrams::Datagrams;
 use crate::ending::Ending;
 use crate::listeners::{Accepted, Listeners};
 use crate::stream::Stream;
+use crate::unheard::{Place, Unheard, heard};
 use crate::whence::Whence;
 use mio::{Events, Poll, Token};
 use registry_sessions::SessionTable;
@@ -53,7 +54,7 @@ pub struct Sockets {
 impl Sockets {
     /// Binds both sockets at this address, whose port is 0 for any free one, and a Unix socket at a path where one is
     /// given. That is the last, so that a port that is taken leaves the path as it is. What becomes of connections is
-    /// kept for `endings` where it `is_told`.
+    /// kept for `endings` where it `is_told`. The error says what could not be had, and why.
     pub fn bind<R: Net + Files + Clock>(
         rt: &R,
         alloc: Global,
@@ -61,21 +62,25 @@ impl Sockets {
         local: Option<&str>,
         bounds: Bounds,
         is_told: bool,
-    ) -> io::Result<Sockets> {
-        let looked = Instant::now(rt)?;
-        let poll = Poll::new(rt)?;
+    ) -> Result<Sockets, Unheard> {
+        let trusts_remote = bounds.trusts_remote;
+        let looked = heard(Place::Waiting, Instant::now(rt))?;
+        let poll = heard(Place::Waiting, Poll::new(rt))?;
         let events = Events::with_capacity(alloc, 1024)?;
-        let mut listeners = Listeners::bind(rt, address, bounds.trusts_remote)?;
-        let port = listeners.port()?;
+        let over_tcp = Place::Tcp(address);
+        let mut listeners = heard(over_tcp, Listeners::bind(rt, address, trusts_remote))?;
+        let port = heard(over_tcp, listeners.port())?;
         let mut bound = address;
         bound.set_port(port);
-        let mut datagrams = Datagrams::bind(rt, alloc, bound, bounds.trusts_remote)?;
+        let over_udp = Place::Udp(bound);
+        let mut datagrams = heard(over_udp, Datagrams::bind(rt, alloc, bound, trusts_remote))?;
         if let Some(path) = local {
-            listeners.listen_at(rt, alloc, path)?;
+            heard(Place::Local, listeners.listen_at(rt, alloc, path))?;
         }
         let registry = poll.registry();
-        listeners.register(registry, LISTENER, LOCAL_LISTENER)?;
-        datagrams.register(registry, DATAGRAMS)?;
+        let noted = listeners.register(registry, LISTENER, LOCAL_LISTENER);
+        heard(Place::Waiting, noted)?;
+        heard(Place::Waiting, datagrams.register(registry, DATAGRAMS))?;
         Ok(Sockets {
             alloc,
             poll,
