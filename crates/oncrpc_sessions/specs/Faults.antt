@@ -72,8 +72,11 @@ place_text place.Local path = path
 place_text place.Waiting path = codes "waiting"
 place_text place.Random path = codes "random bytes"
 
+-- the line of what failed there, and why (own)
+abbrev pub socket_line : (place why : List ℕ) → List ℕ
+socket_line place why = codes "socket fault: " ++ place ++ codes ": " ++ why ++ codes "\n"
+
 -- the whole line (own)
 abbrev pub fault_line : Unheard → (path : List ℕ) → List ℕ
-fault_line (unheard.Socket at why) path =
-    codes "socket fault: " ++ place_text at path ++ codes ": " ++ cause_text why ++ codes "\n"
+fault_line (unheard.Socket at why) path = socket_line (place_text at path) (cause_text why)
 fault_line unheard.NoMemory path = codes "out of memory\n"

@@ -1,7 +1,7 @@
 //! Why a registry is not heard, or no longer.
 ghost use Rattle.std.specs.Prelude.{◌≡◌, Ok, Err, IfOk, IfErr, string_bytes};
-ghost use Rattle.oncrpc_sessions.specs.Faults.{fault_line, place_text, spaced, unheard_by};
-ghost use Rattle.oncrpc_sessions.specs.declared.unheard.Unheard.TheVariants as unheard;
+ghost use Rattle.oncrpc_sessions.specs.Faults.{fault_line, place_text, socket_line, spaced, unheard_by};
+ghost use Rattle.oncrpc_sessions.specs.declared.unheard.Unheard.TheVariants as fault;
 
 use crate::cause::Cause;
 use rpc_directory::NoMemory;
@@ -52,7 +52,7 @@ impl Unheard {
             Unheard::Socket { place, cause } => {
                 let place = place_text(alloc, place, path)?;
                 let cause = cause.text(alloc)?;
-                format!(in alloc; "socket fault: {}: {}\n", place.as_str(), cause.as_str())
+                socket_line(alloc, place.as_str(), cause.as_str())
             }
             Unheard::NoMemory => String::from_str(alloc, "out of memory\n"),
         }
@@ -60,7 +60,7 @@ impl Unheard {
 }
 
 impl From<AllocError> for Unheard {
-    ghost from_gives = { λ _ why. why ≡ unheard.NoMemory };
+    ghost from_gives = { λ _ why. why ≡ fault.NoMemory };
 
     fn from(_: AllocError) -> Unheard {
         Unheard::NoMemory
@@ -68,7 +68,7 @@ impl From<AllocError> for Unheard {
 }
 
 impl From<NoMemory> for Unheard {
-    ghost from_gives = { λ _ why. why ≡ unheard.NoMemory };
+    ghost from_gives = { λ _ why. why ≡ fault.NoMemory };
 
     fn from(_: NoMemory) -> Unheard {
         Unheard::NoMemory
@@ -84,6 +84,12 @@ pub fn heard<T>(place: Place, given: io::Result<T>) -> Result<T, Unheard>
         Ok(value) => Ok(value),
         Err(error) => Err(Unheard::by(place, &error)),
     }
+}
+
+fn socket_line(alloc: Global, place: &str, cause: &str) -> Result<String, AllocError>
+    ensures { IfOk result (λ text. string_bytes text ≡ socket_line place.now cause.now) }
+{
+    format!(in alloc; "socket fault: {place}: {cause}\n")
 }
 
 // What was asked for there.
