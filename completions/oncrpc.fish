@@ -82,7 +82,7 @@ complete -c oncrpc -n '__fish_seen_subcommand_from ping; and not __fish_seen_sub
 complete -c oncrpc -n '__fish_seen_subcommand_from ping; and not __fish_seen_subcommand_from help' -s h -l help -d 'Print help'
 complete -c oncrpc -n '__fish_seen_subcommand_from serve; and not __fish_seen_subcommand_from help' -l port -x -d 'The port to listen at, over TCP and UDP, 0 to 65535; 0 takes a free one'
 complete -c oncrpc -n '__fish_seen_subcommand_from serve; and not __fish_seen_subcommand_from help' -l bind -x -d 'The address to listen at, of IPv4; 0.0.0.0 is all of this host'
-complete -c oncrpc -n '__fish_seen_subcommand_from serve; and not __fish_seen_subcommand_from help' -l connections -x -d 'How many connections may be open at a time, 1 to 1048576'
+complete -c oncrpc -n '__fish_seen_subcommand_from serve; and not __fish_seen_subcommand_from help' -l connections -x -d 'How many connections over TCP may be open at a time, 1 to 1048576'
 complete -c oncrpc -n '__fish_seen_subcommand_from serve; and not __fish_seen_subcommand_from help' -l idle -x -d 'How long a connection may make no call and take no reply, 1 to 4294967295 seconds'
 complete -c oncrpc -n '__fish_seen_subcommand_from serve; and not __fish_seen_subcommand_from help' -l verbose -d 'Print a line on standard error for each connection that has ended'
 complete -c oncrpc -n '__fish_seen_subcommand_from serve; and not __fish_seen_subcommand_from help' -l insecure -d 'Take SET and UNSET of callers of other hosts, too'

@@ -46,7 +46,7 @@ def no_answer(xid):
     return struct.pack(">6I", xid, 1, 0, 0, 0, 5)
 
 
-def called(*words, room=0, **variables):
+def called(*words, port=0, room=0, **variables):
     """The program's words, its environment, and what is done before it begins: a signal may be ignored here."""
 
     def begin():
@@ -55,7 +55,7 @@ def called(*words, room=0, **variables):
             resource.setrlimit(resource.RLIMIT_NOFILE, (room, room))
 
     how = {"env": {**os.environ, **variables}, "stdout": subprocess.PIPE, "stderr": subprocess.PIPE}
-    return ["serve", "--port", "0", *words], {**how, "preexec_fn": begin}
+    return ["serve", "--port", str(port), *words], {**how, "preexec_fn": begin}
 
 
 class Kept:
@@ -328,6 +328,42 @@ def holds_little(program):
         return sets == marked(replied(1, 1)) * 1018 and well and took < 2 * SOON and most < 16 << 20
 
 
+def ended(program, *words, **more):
+    """The status, standard output and standard error of a registry that is to end by itself."""
+    words, how = called(*words, **more)
+    with subprocess.Popen([program, *words], **how) as it:
+        late = threading.Timer(WAIT, it.kill)
+        late.start()
+        printed, faults = it.communicate()
+        late.cancel()
+    return it.returncode, printed, faults
+
+
+def unheard(program, heap):
+    """What could not be had, or failed, and why: by the line, behind which the system's own word stands."""
+    with socket.socket() as tcp, socket.socket(type=socket.SOCK_DGRAM) as udp:
+        tcp.bind((HOST, 0))
+        tcp.listen()
+        udp.bind((HOST, 0))
+        (_, first), (_, second) = tcp.getsockname(), udp.getsockname()
+        rows = [
+            ("a port that is taken", {"port": first}, f"127.0.0.1 {first} over tcp: address in use"),
+            ("one that is taken over UDP", {"port": second}, f"127.0.0.1 {second} over udp: address in use"),
+            ("no descriptor for TCP", {"room": 4}, "127.0.0.1 0 over tcp: error 24"),
+            ("none for UDP", {"room": 5}, r"127.0.0.1 \d+ over udp: error 24"),
+        ]
+        if heap:
+            rows.append(("no random bytes", {"LD_PRELOAD": heap, "REFUSE_RANDOM": "1"}, "random bytes: [a-z0-9 ]+"))
+        for name, more, wanted in rows:
+            said = ended(program, **more)
+            well = said[:2] == (3, b"") and re.fullmatch(f"socket fault: {wanted}\n", said[2].decode())
+            yield name, well, said
+    if heap:
+        status, printed, faults = ended(program, LD_PRELOAD=heap, REFUSE_WAIT="2")
+        well = (status, faults) == (3, b"socket fault: waiting: error 5\n") and FIRST.fullmatch(printed)
+        yield "a wait that fails", well, (status, printed, faults)
+
+
 def growths(program, heap):
     """With each growth refused: it ends before it listens, or answers all but what that growth was for."""
     wrong, listened = [], 0
@@ -335,9 +371,9 @@ def growths(program, heap):
         for refused in (str(number), f"{number}.."):
             with Kept(program, "--verbose", LD_PRELOAD=heap, REFUSE_GROWTH=refused) as kept:
                 if not kept.port:
-                    ended = kept.process.wait(WAIT), kept.process.stderr.read()
-                    if ended not in ((3, b"socket fault\n"), (4, b"out of memory\n")):
-                        wrong.append((refused, ended))
+                    said = kept.process.wait(WAIT), kept.process.stderr.read()
+                    if said != (4, b"out of memory\n"):
+                        wrong.append((refused, said))
                     continue
                 listened += 1
                 got = [answered(kept) for _ in range(4)]
@@ -366,7 +402,7 @@ def answered(kept):
 
 def kept_rows(program, heap):
     """The rows, each whether it is as it should be."""
-    some = [at_once, lines, reset, full, idle, bounded]
+    some = [at_once, lines, reset, full, idle, bounded, lambda it: unheard(it, heap)]
     for rows in [*some, lambda it: growths(it, heap)] if heap else some:
         for name, is_well, told in rows(program):
             yield tell(f"oncrpc serve, {name}", is_well, told)

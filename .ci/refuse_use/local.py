@@ -4,7 +4,10 @@ file that stands at PATH.
 Expected bytes are those of RFC 5531 section 9 and of RFC 1833 section 2.2.1. The netid of a local socket is 'local', as
 /etc/netconfig of libtirpc has it.
 """
+import contextlib
 import os
+import resource
+import shutil
 import signal
 import socket
 import stat
@@ -115,17 +118,42 @@ def served(program, folder):
             yield "another user cannot connect", said == 7, said
 
 
-def refused(program, path):
+def places(program, folder):
+    """Connections over TCP and those at the socket take no place of the others."""
+    path = f"{folder}/socket"
+    with Kept(program, "--connections", "1", "--local", path) as kept, contextlib.ExitStack() as opened:
+        second_line(kept)
+        silent, other = (opened.enter_context(kept.client()) for _ in range(2))
+        said = is_answered(silent, 1), is_answered(other, 2, 0.5)
+        with at_path(path) as made:
+            well = said == (True, False) and says(made, SET, TRUE)
+        yield "SET beside a silent client that has the one place over TCP", well, said
+        clients = [opened.enter_context(at_path(path)) for _ in range(24)]
+        for number, made in enumerate(clients):
+            made.sendall(marked(call(number)))
+        first = [made for number, made in enumerate(clients) if read(made, 28, 0.2) == marked(replied(number))]
+        yield "16 places at the socket", len(first) == 16, len(first)
+        silent.close()
+        said = read(other, 28)
+        yield "beside them the next client over TCP", said == marked(replied(2)), said
+        for made in first:
+            made.close()
+        later = [read(made, 28) == marked(replied(number)) for number, made in enumerate(clients) if made not in first]
+        yield "and the others at the socket once these have gone", len(later) == 8 and all(later), later
+
+
+def refused(program, path, **more):
     """What a program says that is asked for a socket at a path."""
     words = [program, "serve", "--port", "0", "--local", path]
     try:
-        ran = subprocess.run(words, check=False, capture_output=True, timeout=WAIT)
+        ran = subprocess.run(words, check=False, capture_output=True, timeout=WAIT, **more)
     except subprocess.TimeoutExpired as it:
         return it.stdout
     return ran.returncode, ran.stdout, ran.stderr
 
 
-FAULT = 3, b"", b"socket fault\n"
+def fault(path, why):
+    return 3, b"", f"socket fault: {path}: {why}\n".encode()
 
 
 def in_the_way(program, folder):
@@ -135,7 +163,8 @@ def in_the_way(program, folder):
         second_line(kept)
         said = refused(program, path)
         with at_path(path) as made:
-            yield "a socket that is served stays", said == FAULT and is_answered(made, 1), said
+            well = said == fault(path, "address in use") and is_answered(made, 1)
+            yield "a socket that is served stays", well, said
         kept.end(signal.SIGKILL)
     left = os.path.exists(path)
     with Kept(program, "--local", path) as kept:
@@ -147,20 +176,28 @@ def in_the_way(program, folder):
         it.write(b"mine")
     said = refused(program, path)
     with open(path, "rb") as it:
-        yield "a file stays", said == FAULT and it.read() == b"mine", said
+        yield "a file stays", said == fault(path, "file exists") and it.read() == b"mine", said
     os.remove(path)
     os.symlink("elsewhere", path)
     said = refused(program, path)
-    yield "a link stays", said == FAULT and os.readlink(path) == "elsewhere", said
+    yield "a link stays", said == fault(path, "file exists") and os.readlink(path) == "elsewhere", said
     os.remove(path)
     os.mkdir(path)
     said = refused(program, path)
-    yield "a folder stays", said == FAULT and os.listdir(folder) == ["socket"], said
+    yield "a folder stays", said == fault(path, "file exists") and os.listdir(folder) == ["socket"], said
     os.rmdir(path)
     longest = f"{folder}/".ljust(98, "a")
-    for name, wrong in (("no folder", f"{folder}/none/socket"), ("99 bytes", f"{longest}a"), ("empty", "")):
+    wrongs = [
+        ("no folder", f"{folder}/none/socket", "no such file"),
+        ("99 bytes", f"{longest}a", "name too long"),
+        ("empty", "", "no such file"),
+        ("below a device", "/dev/null/socket", "not a directory"),
+    ]
+    for name, wrong, why in wrongs:
         said = refused(program, wrong)
-        yield name, said == FAULT and os.listdir(folder) == [], (said, os.listdir(folder))
+        yield name, said == fault(wrong, why) and os.listdir(folder) == [], (said, os.listdir(folder))
+    said = refused(program, path, preexec_fn=lambda: resource.setrlimit(resource.RLIMIT_NOFILE, (6, 6)))
+    yield "no descriptor", said == fault(path, "error 24") and os.listdir(folder) == [], (said, os.listdir(folder))
     with Kept(program, "--local", longest) as kept:
         second_line(kept)
         with at_path(longest) as made:
@@ -174,6 +211,18 @@ def in_the_way(program, folder):
             yield "a folder of the first name that is tried", well, os.listdir(folder)
 
 
+def forbidden(program, folder):
+    """A folder that the user may not enter; it is the superuser who can ask."""
+    if os.geteuid() == 0:
+        path, mine = f"{folder}/mine/socket", f"{folder}/oncrpc"
+        os.mkdir(os.path.dirname(path), 0o700)
+        shutil.copy(program, mine)
+        os.chmod(mine, 0o755)
+        os.chmod(folder, 0o755)
+        said = refused(mine, path, user=NOBODY, group=NOBODY, extra_groups=[])
+        yield "a folder of another user", said == fault(path, "permission denied"), said
+
+
 def growths(program, heap, folder):
     """With each growth refused it ends before it listens and leaves nothing, or it answers."""
     path, wrong, listened = f"{folder}/socket", [], 0
@@ -181,9 +230,9 @@ def growths(program, heap, folder):
         with Kept(program, "--local", path, LD_PRELOAD=heap, REFUSE_GROWTH=str(number)) as kept:
             second = second_line(kept) if kept.port else b""
             if not second:
-                ended = kept.process.wait(WAIT), kept.process.stderr.read()
-                if ended not in ((3, b"socket fault\n"), (4, b"out of memory\n")):
-                    wrong.append((number, ended))
+                said = kept.process.wait(WAIT), kept.process.stderr.read()
+                if said != (4, b"out of memory\n"):
+                    wrong.append((number, said))
                 continue
             listened += 1
             with at_path(path) as first, at_path(path) as made:
@@ -197,7 +246,7 @@ def growths(program, heap, folder):
 
 def local_rows(program, heap):
     """The rows, each whether it is as it should be."""
-    some = [served, in_the_way]
+    some = [served, places, in_the_way, forbidden]
     for rows in [*some, lambda it, folder: growths(it, heap, folder)] if heap else some:
         umask = os.umask(0o022)
         with tempfile.TemporaryDirectory() as folder:

@@ -88,6 +88,11 @@ impl Client {
         self.is_to_be_read(table) || self.is_to_be_taken(table) || self.is_to_be_written(table)
     }
 
+    /// It is at the Unix socket.
+    pub fn is_local(&self) -> bool {
+        self.whence == Whence::Local
+    }
+
     /// Nothing is left to do for it.
     pub fn is_done(&self) -> bool {
         self.ending.is_some() && self.piece.is_empty() && self.waiting == 0

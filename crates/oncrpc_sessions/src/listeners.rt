@@ -1,4 +1,5 @@
 //! What listens for connections: a port over TCP, and a Unix socket where one is asked for.
+use crate::bounds::Room;
 use crate::local::listen_at;
 use crate::stream::Stream;
 use crate::whence::{LOCAL, Whence, caller_at};
@@ -81,9 +82,11 @@ impl Listeners {
         self.may_accept_local = true;
     }
 
-    /// One may wait that can be accepted.
-    pub fn is_busy(&self) -> bool {
-        !self.is_short && (self.may_accept || self.may_accept_local)
+    /// One may wait that can be accepted where there is room.
+    pub fn is_busy(&self, room: Room) -> bool {
+        let over_tcp = room.tcp && self.may_accept;
+        let over_local = room.local && self.may_accept_local;
+        !self.is_short && (over_tcp || over_local)
     }
 
     /// The last one could not be accepted.
@@ -96,16 +99,17 @@ impl Listeners {
         self.is_short = false;
     }
 
-    /// One connection that waits, first of those at the Unix socket. One that could not be accepted ends nothing.
-    pub fn accept(&mut self) -> Option<Accepted> {
-        match self.accept_local() {
+    /// One connection that waits where there is room, first of those at the Unix socket. One that could not be accepted
+    /// ends nothing.
+    pub fn accept(&mut self, room: Room) -> Option<Accepted> {
+        match self.accept_local(room.local) {
             Some(accepted) => Some(accepted),
-            None => self.accept_tcp(),
+            None => self.accept_tcp(room.tcp),
         }
     }
 
-    fn accept_local(&mut self) -> Option<Accepted> {
-        if !self.may_accept_local {
+    fn accept_local(&mut self, has_room: bool) -> Option<Accepted> {
+        if !has_room || !self.may_accept_local {
             return None;
         }
         let Some(listener) = &self.local else {
@@ -126,8 +130,8 @@ impl Listeners {
     }
 
     // Replies are sent as they are written, without waiting for more.
-    fn accept_tcp(&mut self) -> Option<Accepted> {
-        if !self.may_accept {
+    fn accept_tcp(&mut self, has_room: bool) -> Option<Accepted> {
+        if !has_room || !self.may_accept {
             return None;
         }
         match self.tcp.accept() {

@@ -10,6 +10,9 @@ use std::{fs, io};
 /// How many names of a folder are tried.
 const MOST_FOLDERS: u32 = 16;
 
+/// The most bytes of a path, behind which `.0/socket` still fits the 107 bytes of a socket's name.
+const MOST_PATH: usize = 98;
+
 /// A folder beside a path, and where the socket stands in it at first.
 #[derive(Drop)]
 struct Folder {
@@ -19,8 +22,12 @@ struct Folder {
 
 /// Listens at a path, whose file has mode 0600 and is of this user. The socket is made in a folder beside it that has
 /// mode 0700, and it is moved to the path once it has its own mode. A socket that stands there is replaced if nobody
-/// answers at it. Else the error is `AddrInUse`, and `AlreadyExists` where another file stands there.
+/// answers at it. Else the error is `AddrInUse`, and `AlreadyExists` where another file stands there. With more than 98
+/// bytes of path it is `InvalidFilename`.
 pub fn listen_at<R: Files + Net>(rt: &R, alloc: Global, path: &str) -> io::Result<UnixListener> {
+    if path.len() > MOST_PATH {
+        return Err(io::Error::from(ErrorKind::InvalidFilename));
+    }
     refuse_taken(rt, path)?;
     let folder = own_folder(rt, alloc, path)?;
     let listener = listen_in(rt, folder.socket.as_str(), path);

@@ -3,12 +3,14 @@ ghost use Rattle.std.specs.Prelude.{List};
 ghost use Rattle.registry_rows.specs.Rows.{Row};
 ghost use Rattle.oncrpc_sessions.specs.Loops.{Goes};
 
+use crate::bounds::{Bounds, Room, room_within};
 use crate::client::Client;
 use crate::clients::Clients;
 use crate::datagrams::Datagrams;
 use crate::ending::Ending;
 use crate::listeners::{Accepted, Listeners};
 use crate::stream::Stream;
+use crate::unheard::{Place, Unheard, heard};
 use crate::whence::Whence;
 use mio::{Events, Poll, Token};
 use registry_sessions::SessionTable;
@@ -33,17 +35,6 @@ const MOST_AT_ONCE: u32 = 64;
 /// For how many seconds a round waits at most where a client is there, and how often idle ones are looked for.
 const LONGEST_WAIT: u64 = 1;
 
-/// What a registry's sockets hold at most.
-#[derive(Clone, Copy, Debug, PartialEq, Eq)]
-pub struct Bounds {
-    /// How many connections may be open at a time. Others wait, and none of them is refused.
-    pub connections: usize,
-    /// How long a connection may stay that makes no call and takes nothing of its replies.
-    pub idle: Duration,
-    /// SET and UNSET of callers of other hosts are taken.
-    pub trusts_remote: bool,
-}
-
 /// A registry's sockets: those that listen, one for datagrams, and those of the clients. Readiness is told once: what a
 /// socket was ready for stays noted until a call would block.
 #[derive(Drop)]
@@ -63,7 +54,7 @@ pub struct Sockets {
 impl Sockets {
     /// Binds both sockets at this address, whose port is 0 for any free one, and a Unix socket at a path where one is
     /// given. That is the last, so that a port that is taken leaves the path as it is. What becomes of connections is
-    /// kept for `endings` where it `is_told`.
+    /// kept for `endings` where it `is_told`. The error says what could not be had, and why.
     pub fn bind<R: Net + Files + Clock>(
         rt: &R,
         alloc: Global,
@@ -71,21 +62,25 @@ impl Sockets {
         local: Option<&str>,
         bounds: Bounds,
         is_told: bool,
-    ) -> io::Result<Sockets> {
-        let looked = Instant::now(rt)?;
-        let poll = Poll::new(rt)?;
+    ) -> Result<Sockets, Unheard> {
+        let trusts_remote = bounds.trusts_remote;
+        let looked = heard(Place::Waiting, Instant::now(rt))?;
+        let poll = heard(Place::Waiting, Poll::new(rt))?;
         let events = Events::with_capacity(alloc, 1024)?;
-        let mut listeners = Listeners::bind(rt, address, bounds.trusts_remote)?;
-        let port = listeners.port()?;
+        let over_tcp = Place::Tcp(address);
+        let mut listeners = heard(over_tcp, Listeners::bind(rt, address, trusts_remote))?;
+        let port = heard(over_tcp, listeners.port())?;
         let mut bound = address;
         bound.set_port(port);
-        let mut datagrams = Datagrams::bind(rt, alloc, bound, bounds.trusts_remote)?;
+        let over_udp = Place::Udp(bound);
+        let mut datagrams = heard(over_udp, Datagrams::bind(rt, alloc, bound, trusts_remote))?;
         if let Some(path) = local {
-            listeners.listen_at(rt, alloc, path)?;
+            heard(Place::Local, listeners.listen_at(rt, alloc, path))?;
         }
         let registry = poll.registry();
-        listeners.register(registry, LISTENER, LOCAL_LISTENER)?;
-        datagrams.register(registry, DATAGRAMS)?;
+        let noted = listeners.register(registry, LISTENER, LOCAL_LISTENER);
+        heard(Place::Waiting, noted)?;
+        heard(Place::Waiting, datagrams.register(registry, DATAGRAMS))?;
         Ok(Sockets {
             alloc,
             poll,
@@ -113,7 +108,7 @@ impl Sockets {
     /// One round: waits until a socket is ready, at most a second where a client is there, and not at all while
     /// something is left to do. It accepts what waits, answers the datagrams that came, and gives each client turns.
     /// Those go that are done, or were idle for too long. An error is that of the wait or of the clock.
-    pub fn round<R: Clock, S: BuildHasher>(
+    pub fn round<R: Clock + Net, S: BuildHasher>(
         &mut self,
         rt: &R,
         table: &mut SessionTable,
@@ -124,7 +119,7 @@ impl Sockets {
         let now = self.wait(rt, table)?;
         self.note();
         self.accept(now, table);
-        self.datagrams.receive(table, directory);
+        self.datagrams.receive(rt, table, directory);
         self.turns(now, table, directory);
         Ok(())
     }
@@ -162,9 +157,15 @@ impl Sockets {
         }
     }
 
-    /// A connection may wait, and there is room for it.
+    /// Where there is room for one more connection.
+    fn room(&self, table: &SessionTable) -> Room {
+        let local = self.clients.local_count();
+        room_within(self.bounds, table.open_count().saturating_sub(local), local)
+    }
+
+    /// A connection may wait for which there is room.
     fn is_to_accept(&self, table: &SessionTable) -> bool {
-        self.listeners.is_busy() && table.open_count() < self.bounds.connections
+        self.listeners.is_busy(self.room(table))
     }
 
     /// Accepts what waits, where there is room.
@@ -183,7 +184,8 @@ impl Sockets {
         if !self.is_to_accept(table) {
             return;
         }
-        let Some(accepted) = self.listeners.accept() else {
+        let room = self.room(table);
+        let Some(accepted) = self.listeners.accept(room) else {
             return;
         };
         self.begin(accepted, now, table);

@@ -1,12 +1,13 @@
 //! Where a connection or a datagram comes from (this project's own, after rpcbind).
-ghost use Rattle.std.specs.Prelude.{◌≡◌};
+ghost use Rattle.std.specs.Prelude.{◌≡◌, IfSome, IsSome, Some};
 ghost use Rattle.std.specs.Net.Socket.{socket_ip};
 ghost use Rattle.oncrpc_sessions.specs.Callers.{host_at, host_of, is_called, peer_at};
 
 use registry_answer::Transport;
 use registry_callers::{Caller, Peer};
 use registry_sessions::Origin;
-use std::net::{IpAddr, SocketAddr};
+use std::io;
+use std::net::{IpAddr, Ipv4Addr, Net, SocketAddr, UdpSocket};
 
 /// Where a connection came from.
 #[derive(Clone, Copy, Debug, PartialEq, Eq)]
@@ -27,8 +28,8 @@ pub const LOCAL: Origin = Origin {
     transport: Transport::Local,
 };
 
-/// Who calls from an address, to a socket at this address of the host. Someone of this host calls from 127.0.0.0/8, or
-/// from the very address that is called. The host is not known where the socket is at every one, 0.0.0.0.
+/// Who calls from an address, to a socket at this address of the host, where it is known. Someone of this host calls
+/// from 127.0.0.0/8, or from the very address that is called. The host is not known where that is 0.0.0.0.
 pub fn caller_at(from: SocketAddr, to: Option<SocketAddr>, trusts_remote: bool) -> Caller
     ensures host { result.host ≡ host_at to }
     ensures peer { result.peer ≡ peer_at (host_of (socket_ip from)) (host_at to) }
@@ -43,6 +44,39 @@ pub fn caller_at(from: SocketAddr, to: Option<SocketAddr>, trusts_remote: bool) 
         host,
         trusts_remote,
     }
+}
+
+/// The address that was called at a socket which is bound at `bound`. Where that is every one of this host, 0.0.0.0, it
+/// is the one by which the system would answer the caller.
+pub fn called_at<R: Net>(rt: &R, bound: SocketAddr, from: SocketAddr) -> Option<SocketAddr>
+    // A socket at one address is called there, whoever calls.
+    ensures one { IfSome (host_of (socket_ip bound)) (λ octets. result ≡ Some bound) }
+    ensures host { IfSome result (λ called. IsSome (host_of (socket_ip called))) }
+{
+    match host_of(bound.ip()) {
+        Some(_) => Some(bound),
+        None => address_towards(rt, from),
+    }
+}
+
+/// The address of this host by which the system would send to a peer. None: it has no way there, or no socket could be
+/// had. Nothing is sent.
+pub fn address_towards<R: Net>(rt: &R, peer: SocketAddr) -> Option<SocketAddr>
+    // It is an address of one host, and never 0.0.0.0.
+    ensures { IfSome result (λ own. IsSome (host_of (socket_ip own))) }
+{
+    let own = own_end(rt, peer).ok()?;
+    match host_of(own.ip()) {
+        Some(_) => Some(own),
+        None => None,
+    }
+}
+
+/// The own end of a fresh socket for datagrams that is connected to a peer: this alone has the system choose it.
+fn own_end<R: Net>(rt: &R, peer: SocketAddr) -> io::Result<SocketAddr> {
+    let socket = UdpSocket::bind(rt, (Ipv4Addr::UNSPECIFIED, 0))?;
+    socket.connect(peer)?;
+    socket.local_addr()
 }
 
 fn peer_of(from: IpAddr, host: Option<[u8; 4]>) -> Peer

@@ -16,7 +16,7 @@ pub const BYTES: u32 = 16777216;
 /// The version of the registry's program where none is given.
 pub const VERS: u32 = 4;
 
-/// How many connections may be open at a time where nothing is said of it.
+/// How many connections over TCP may be open at a time where nothing is said of it.
 pub const CONNECTIONS: u32 = 1024;
 
 /// For how many seconds a connection may be idle where nothing is said of it.

@@ -61,7 +61,7 @@ pub const PORT: &str = "The port to listen at, over TCP and UDP, 0 to 65535; 0 t
 pub const BIND: &str = "The address to listen at, of IPv4; 0.0.0.0 is all of this host";
 
 /// The option for how many connections may be open.
-pub const CONNECTIONS: &str = "How many connections may be open at a time, 1 to 1048576";
+pub const CONNECTIONS: &str = "How many connections over TCP may be open at a time, 1 to 1048576";
 
 /// The option for how long a connection may be idle.
 pub const IDLE: &str =

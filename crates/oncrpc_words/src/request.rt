@@ -123,7 +123,7 @@ pub struct KeepTask {
     pub address: Ipv4Addr,
     /// The port to listen at, over TCP and over UDP; 0 takes one that is free over TCP.
     pub port: u16,
-    /// How many connections may be open at a time, 1 to 1048576.
+    /// How many connections over TCP may be open at a time, 1 to 1048576.
     pub connections: u32,
     /// For how many seconds a connection may make no call and take nothing of its replies, 1 to 4294967295.
     pub idle: u32,

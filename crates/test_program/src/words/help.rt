@@ -140,7 +140,7 @@ const OF_PING: [&str; 5] = [
     "\n  0  each call was answered\n",
 ];
 
-const OF_SERVE: [&str; 22] = [
+const OF_SERVE: [&str; 23] = [
     "--port <N>",
     "0 takes a free one",
     "--bind <ADDR>",
@@ -160,6 +160,7 @@ const OF_SERVE: [&str; 22] = [
     "connection K: N records, M replies",
     "datagram K: reply",
     "datagram K: no reply",
+    "socket fault: ADDR PORT over udp: WHY",
     "\n  3  ",
     "\n  4  ",
     "\n    $ oncrpc serve --port 111",
