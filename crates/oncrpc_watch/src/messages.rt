@@ -3,7 +3,7 @@ ghost use Rattle.std.specs.Prelude.{◌≡◌, ◌≤◌, ℕ, List, Option, IfO
 ghost use Rattle.xdr_lang.specs.Views.{declared_of};
 ghost use Rattle.oncrpc_messages.specs.Heads.{heads_of};
 ghost use Rattle.oncrpc_watch.specs.MessagesEnd.{MessagesEnd, PrintsBoth, PrintsInput, form_of, terms_in};
-ghost use Rattle.oncrpc_watch.specs.Private.Steps.{Closes, IsOpened, PrintsBy};
+ghost use Rattle.oncrpc_watch.specs.Private.Steps.{Closes, IsOpened, PrintsBy, PrintsIn};
 ghost use Rattle.oncrpc_watch.specs.Represents.{IsAt};
 ghost use Rattle.oncrpc_watch.specs.Run.{nothing};
 ghost use Rattle.oncrpc_watch.specs.Terms.{each_declared, terms_of};
@@ -82,16 +82,8 @@ fn print_by<I: Source + Drop, R: Source + Drop, O: Sink>(
     let heads = read_heads(known.alloc)?;
     let terms = terms_by(known, declared, &heads, json);
     let mut watch = Watch::new(known.alloc, &terms);
-    match other {
-        None => {
-            let status = print_one(known.alloc, &mut watch, input, output)?;
-            Ok(status)
-        }
-        Some(other) => {
-            let printed = print_both(known.alloc, &mut watch, input, other, output)?;
-            Ok(printed)
-        }
-    }
+    let status = print_in(known.alloc, &mut watch, input, other, output)?;
+    Ok(status)
 }
 
 // By what messages are judged and printed.
@@ -112,6 +104,25 @@ fn form_of(json: bool) -> Form
     ensures { result ≡ form_of json }
 {
     if json { Form::Json } else { Form::Lines }
+}
+
+// The messages of the input, and of the other direction where there is one.
+fn print_in<I: Source + Drop, R: Source + Drop, O: Sink>(
+    alloc: Global,
+    watch: &mut Watch<'_>,
+    input: I,
+    other: Option<R>,
+    output: &mut O,
+) -> Result<u8, Failure>
+    requires { IsAt watch.old nothing }
+    ensures few { IfOk result (λ status. status ≤ 1) }
+    ensures prints { IfOk result (λ status. PrintsIn R.left (terms_of watch.old.terms) other
+        (I.left input) (O.taken output.old) (O.taken output.new) status) }
+{
+    match other {
+        None => print_one(alloc, watch, input, output),
+        Some(replies) => print_both(alloc, watch, input, replies, output),
+    }
 }
 
 // The messages of the input.
