@@ -8,6 +8,7 @@ from refuse_use.messages_long import further_rows
 from refuse_use.messages_recorded import recorded_rows
 from refuse_use.messages_streams import ROOT, RPCBIND, Sweep, call, counts, fragment, reply, sys_body, words
 from refuse_use.packets import connections
+from telling import tell
 
 GETPORT = call(8, 100000, 2, 3, words(100003, 3, 6, 0))
 GETPORT_LINES = b"call 8 100000.2.3 GETPORT AUTH_NONE\nstruct\n  prog: 100003\n  vers: 3\n  prot: 6\n  port: 0\n"
@@ -177,8 +178,7 @@ def messages_rows(program, folder, heap):
         yield sweep.row(what, line, given, tuple(wanted))
     yield from both_rows(sweep, BOTH)
     said = named(program, f"{folder}/watched")
-    print(f"messages of tests/captures/libnfs.pcap: {said or 'as tshark names them'}")
-    yield not said
+    yield tell("messages of tests/captures/libnfs.pcap", not said, said, "as tshark names them")
     yield from recorded_rows(program, folder)
     yield from hostile_rows(sweep)
     yield from further_rows(sweep)

@@ -7,6 +7,8 @@ import subprocess
 from refuse_use.messages_hostile import ECHO_LINE, GETPORT, GETPORT_LINES, NULL, NULL_LINE, NUMBER, OWN, PORT, PORT_LINES
 from refuse_use.messages_hostile import echo
 from refuse_use.messages_streams import MOST, RPCBIND, call, counts, ended, fragment, header, opaque, reply, sys_body, words
+from telling import tell
+from timing import LIMIT
 
 # The stack of a run in KiB that README names.
 STACK = 2560
@@ -79,9 +81,8 @@ def long_rows(sweep):
 
 def row(what, got, wanted):
     """Prints a row, of long streams the ends alone, and returns whether it is as it should be."""
-    said = "as it should" if got == wanted else [(part[-99:] if isinstance(part, bytes) else part) for part in (*got, *wanted)]
-    print(f"messages, {what}: {said}")
-    return got == wanted
+    ends = [(part[-99:] if isinstance(part, bytes) else part) for part in (*got, *wanted)]
+    return tell(f"messages, {what}", got == wanted, ends)
 
 
 def both_rows(sweep):
@@ -101,11 +102,11 @@ def deep_rows(sweep):
         value = words(*[1] * count, 0)
         given = fragment(call(7, NUMBER, 1, 0, value))
         show = [sweep.program, "show", *OWN.split(), "--name", "link"]
-        lines = subprocess.run(show, cwd=sweep.folder, input=value, capture_output=True, timeout=60).stdout
+        lines = subprocess.run(show, cwd=sweep.folder, input=value, capture_output=True, timeout=LIMIT).stdout
         below = lines[: lines.rindex(b"ok ")] if not refused else b"refused TooDeep at %d\n" % refused
         wanted = b"call 7 536870915.1.0 PUT AUTH_NONE\n" + below + counts(1, 0, 0, int(bool(refused)), 0, 0)
         shell = ["sh", "-c", f"ulimit -s {STACK}; exec '{sweep.program}' messages {OWN}"]
-        got = subprocess.run(shell, cwd=sweep.folder, input=given, capture_output=True, timeout=60)
+        got = subprocess.run(shell, cwd=sweep.folder, input=given, capture_output=True, timeout=LIMIT)
         got = got.returncode, got.stdout, got.stderr
         yield row(f"an argument of {count} links, {STACK} KiB of stack", got, (int(bool(refused)), wanted, b""))
 
@@ -130,8 +131,7 @@ def cut_rows(sweep):
         got = ended(sweep.program, sweep.folder, RPCBIND, WHOLE[:size])
         if got != (int(cut), wanted, b""):
             bad.append((size, got))
-    print(f"messages, {len(WHOLE) + 1} cuts of a stream: {bad[:3] or 'as it should'}")
-    yield not bad
+    yield tell(f"messages, {len(WHOLE) + 1} cuts of a stream", not bad, bad[:3])
 
 
 def piece_rows(sweep):
@@ -170,8 +170,7 @@ def changed_rows(sweep, count=400):
         got = ended(sweep.program, sweep.folder, RPCBIND, bytes(given))
         if got[0] not in (0, 1) or not tells_itself(got):
             bad.append((given.hex(), got))
-    print(f"messages, {count} streams with bytes that are changed: {bad[:3] or 'as they should'}")
-    yield not bad
+    yield tell(f"messages, {count} streams with bytes that are changed", not bad, bad[:3])
 
 
 # What a shell does to the streams, the status, and what is printed on standard error.
@@ -193,12 +192,12 @@ def device_rows(sweep):
         it.write(WHOLE)
     for redirected, status, faults in DEVICES:
         shell = ["sh", "-c", f"exec '{sweep.program}' messages {RPCBIND} {redirected}"]
-        how = {"cwd": sweep.folder, "capture_output": True, "stdin": subprocess.DEVNULL, "timeout": 60}
+        how = {"cwd": sweep.folder, "capture_output": True, "stdin": subprocess.DEVNULL, "timeout": LIMIT}
         got = subprocess.run(shell, **how)
         yield row(redirected, (got.returncode, got.stderr), (status, faults))
     read, write = os.pipe()
     os.close(read)
-    how = {"cwd": sweep.folder, "input": WHOLE, "stdout": write, "stderr": subprocess.PIPE, "timeout": 60}
+    how = {"cwd": sweep.folder, "input": WHOLE, "stdout": write, "stderr": subprocess.PIPE, "timeout": LIMIT}
     got = subprocess.run([sweep.program, "messages", *RPCBIND.split()], **how)
     os.close(write)
     yield row("whose output nobody reads", (got.returncode, got.stderr), (3, b"write fault\n"))

@@ -10,13 +10,15 @@ import subprocess
 from refuse_use.messages_streams import ROOT, call, counts, fragment, reply, words
 from refuse_use.recorded import GENERATED, RECORDED, SERVED
 from refuse_use.share_lines import NUMBERS
+from telling import tell
+from timing import LIMIT
 
 TEXTS = {name: (number, f"{ROOT}/share/oncrpc/{name}.x") for name, number in NUMBERS.items()}
 TEXTS["filed"] = (536870914, f"{ROOT}/.ci/clients_use/filed.x")
 
 
 def made(program, line, given):
-    ended = subprocess.run([program, *line], input=given, capture_output=True, timeout=60, check=False)
+    ended = subprocess.run([program, *line], input=given, capture_output=True, timeout=LIMIT, check=False)
     return ended.returncode, ended.stdout
 
 
@@ -98,9 +100,8 @@ def recorded_rows(program, folder):
         both = ["messages", *types, "--replies", f"{folder}/replies.bin"]
         for line, given in ((["messages", *types], records), (both, records[::2])):
             got = made(program, line, b"".join(given))
-            print(f"{len(of_one)} exchanges of {text}{' with --replies' * ('--replies' in line)}: {got == wanted or got}")
-            yield got == wanted
+            name = f"{len(of_one)} exchanges of {text}{' with --replies' * ('--replies' in line)}"
+            yield tell(name, got == wanted, got)
         status, printed = made(program, ["messages", "--json", *types], b"".join(records))
         bad = [*objects_wrong(program, text, of_one, printed)]
-        print(f"{len(of_one)} exchanges of {text} as JSON: {bad[:3] or 'as it should'}")
-        yield status == 0 and not bad
+        yield tell(f"{len(of_one)} exchanges of {text} as JSON", status == 0 and not bad, (status, bad[:3]))

@@ -5,6 +5,8 @@ import struct
 import subprocess
 
 from refuse_use.refusing import counted
+from telling import tell
+from timing import LIMIT
 
 ROOT = os.path.dirname(os.path.dirname(os.path.dirname(os.path.realpath(__file__))))
 RPCBIND, NFS = f"--types {ROOT}/share/oncrpc/rpcbind.x", f"--types {ROOT}/share/oncrpc/nfs.x"
@@ -51,7 +53,7 @@ def counts(calls, replies, others, refused, unjudged, unasked):
 
 def ended(program, folder, line, given, **variables):
     """The status and both streams."""
-    how = {"cwd": folder, "input": given, "capture_output": True, "env": {**os.environ, **variables}, "timeout": 60}
+    how = {"cwd": folder, "input": given, "capture_output": True, "env": {**os.environ, **variables}, "timeout": LIMIT}
     got = subprocess.run([program, "messages", *line.split()], **how)
     return got.returncode, got.stdout, got.stderr
 
@@ -106,6 +108,5 @@ class Sweep:
         """Prints a row, and returns whether it is as it should be: the status, the output, and each that is refused."""
         whole, numbers, bad = self.over(line, given, begin)
         well = whole[:2] == wanted and not bad
-        said = [] if well else [whole, wanted, *bad[:3]]
-        print(f"messages, {what}: {numbers} growths, reads and writes refused", *said)
-        return well
+        said = f"messages, {what}, {numbers} growths, reads and writes refused"
+        return tell(said, well, [whole, wanted, *bad[:3]])
