@@ -98,6 +98,31 @@ def again_rows(folder):
         os.remove(f"{tree.bin}/{name}.ends")
 
 
+# Proves the archive ahead, and fails behind its work; and the part that goes on with it.
+AHEAD = """#!/bin/sh
+sleep 1
+echo "$ONCRPC_LANES $PWD" >%s/ahead
+exit 1
+"""
+BEHIND = """#!/bin/sh
+echo "ahead: $(cat %s/ahead) $ONCRPC_LANES"
+echo "2 passed, 0 failed"
+"""
+
+
+def ahead_rows(folder):
+    """The archive is proved ahead in a copy, in the lanes of its part, which waits for it; its status says nothing."""
+    tree = checkout(folder, "ahead")
+    tree.write("build-library", AHEAD % tree.bin, 0o755)
+    tree.write(".ci/library", BEHIND % tree.bin, 0o755)
+    for words in (".ci/run", ".ci/run --anew"):
+        got = tree.run(words)
+        told = re.search(rb"^ahead: (\S+) (\S+)/checkout (\S+)$", got[1], re.M)
+        is_well = told and told[1] == told[3] and told[1].startswith(told[2]) == (words != ".ci/run")
+        is_gone = told and not os.path.exists(told[2])
+        yield row(f"{words}, the archive ahead", is_well and is_gone and ends(got, 0, "15 passed, 0 failed"), got)
+
+
 def gate_rows(folder):
     """Each part counts, by its last line and by its status."""
     tree = checkout(folder, "gate")
@@ -120,3 +145,4 @@ def gate_rows(folder):
             is_first = name != "documents" or b"rt ci" not in got[1]
             yield row(f".ci/run, {name} says {said!r}, {status}", is_first and ends(got, 1, rf"\d+ passed, {failed}"), got)
     yield from again_rows(folder)
+    yield from ahead_rows(folder)
