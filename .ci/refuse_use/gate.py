@@ -44,6 +44,7 @@ def checkout(folder, name):
     for it in PARTS:
         place = "tests/run" if it == "run" else f".ci/{it}"
         tree.write(place, PART % (tree.bin, tree.bin), 0o755)
+    tree.write("build-library", "#!/bin/sh\n", 0o755)
     tree.write("bin/ci", PART % (tree.bin, tree.bin), 0o755)
     tree.write("bin/rt", RT.replace("%%", "%"), 0o755)
     return tree
