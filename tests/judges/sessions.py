@@ -8,7 +8,7 @@ refused, a connection may end at an allocation failure, and a call may be answer
 import itertools
 import random
 
-from rows.sessions import SESSIONS
+from rows.sessions import BY_CALLER, SESSIONS
 from rows.shared import (
     ASKED_AFTER,
     BY_RECORD,
@@ -350,9 +350,22 @@ def large_session_cases():
     yield case, is_served(case)
 
 
+def caller_cases():
+    """Callers of one registry, each over a connection of its own: what is answered depends on who calls."""
+    callers = sorted({caller for caller, *_ in BY_CALLER})
+    events = [(f"open:{caller}", f"open {number}") for number, caller in enumerate(callers)]
+    for caller, asked, said in BY_CALLER:
+        record, reply = (b"".join(map(word, each)) for each in (asked, said))
+        told = f" {marked(reply).hex()}" if said else ""
+        events.append((f"take:{callers.index(caller)}:{marked(record).hex()}", f"answered {len(record) + 4}{told}"))
+    wanted = "; ".join(answer for _, answer in events)
+    yield serving(len(callers), 10000, [event for event, _ in events]), lambda told: told.answer == wanted
+
+
 def session_cases():
     yield from worked_session_cases()
     yield from alone_session_cases()
+    yield from caller_cases()
 
 
 def session_rows():

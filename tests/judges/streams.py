@@ -127,6 +127,9 @@ def normalise_cases():
         whole = octets(digits)
         for given, reads, writes in failures(whole, normal_form(records_in(whole, limit)[0])):
             yield Case("normalise", reads, writes, limit=limit, given=given), normalised(limit, given, reads, writes)
+        # A stream in its normal form is that again.
+        normal = normal_form(records_in(whole, limit)[0])
+        yield Case("normalise", limit=limit, given=normal), lambda told, normal=normal: told.streams == [normal]
 
 
 def handed_out(limit, given):
