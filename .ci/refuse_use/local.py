@@ -7,6 +7,7 @@ Expected bytes are those of RFC 5531 section 9 and of RFC 1833 section 2.2.1. Th
 import contextlib
 import os
 import resource
+import select
 import shutil
 import signal
 import socket
@@ -15,6 +16,7 @@ import struct
 import subprocess
 import sys
 import tempfile
+import time
 
 sys.dont_write_bytecode = True
 sys.path.insert(0, os.path.dirname(os.path.dirname(os.path.realpath(__file__))))
@@ -118,6 +120,19 @@ def served(program, folder):
             yield "another user cannot connect", said == 7, said
 
 
+def answered_first(clients, count):
+    """Those of the clients, each of which has called by its number, that are answered: so many, and some more where more
+    are answered soon behind them."""
+    first, until = [], time.monotonic() + WAIT
+    while time.monotonic() < until:
+        waiting = [made for made in clients if made not in first]
+        ready = select.select(waiting, [], [], 1)[0]
+        if not ready and len(first) >= count:
+            break
+        first += [made for made in ready if read(made, 28) == marked(replied(clients.index(made)))]
+    return first
+
+
 def places(program, folder):
     """Connections over TCP and those at the socket take no place of the others."""
     path = f"{folder}/socket"
@@ -131,7 +146,7 @@ def places(program, folder):
         clients = [opened.enter_context(at_path(path)) for _ in range(24)]
         for number, made in enumerate(clients):
             made.sendall(marked(call(number)))
-        first = [made for number, made in enumerate(clients) if read(made, 28, 0.2) == marked(replied(number))]
+        first = answered_first(clients, 16)
         yield "16 places at the socket", len(first) == 16, len(first)
         silent.close()
         said = read(other, 28)
