@@ -138,7 +138,7 @@ VALUES = [
     ),
     (
         ["show", "--name", "int", "--types", "a", "--dialect", "rpcgen", "--define=B", "--define", "A"],
-        {"a": b"#ifdef A\nconst X = 1;\n#endif\n#ifdef B\nconst Y = X;\n#endif\nconst Z = Y;\n"},
+        {"a": b"#ifdef A\nconst X = 1;\n#endif\n#ifdef B\nconst Y = X;\n#endif\ntypedef int z<Y>;\n"},
         ONE,
         0,
         b"-1\nok 4\n",
