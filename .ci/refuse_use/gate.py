@@ -102,7 +102,7 @@ def again_rows(folder):
 # Proves the archive ahead, and fails behind its work; and the part that goes on with it.
 AHEAD = """#!/bin/sh
 sleep 1
-echo "$ONCRPC_LANES $PWD" >%s/ahead
+echo "$ONCRPC_LANES $PWD" $(cd crates/kept && ls -d proofs/library out) >%s/ahead 2>/dev/null
 exit 1
 """
 BEHIND = """#!/bin/sh
@@ -115,10 +115,14 @@ def ahead_rows(folder):
     """The archive is proved ahead in a copy, in the lanes of its part, which waits for it; its status says nothing."""
     tree = checkout(folder, "ahead")
     tree.write("build-library", AHEAD % tree.bin, 0o755)
+    # (what was built is not copied, but for a folder of sources that has the name of one)
+    for it in ("proofs/library/there", "out/made"):
+        os.makedirs(os.path.dirname(f"{tree.at}/crates/kept/{it}"))
+        tree.write(f"crates/kept/{it}", "")
     tree.write(".ci/library", BEHIND % tree.bin, 0o755)
     for words in (".ci/run", ".ci/run --anew"):
         got = tree.run(words)
-        told = re.search(rb"^ahead: (\S+) (\S+)/checkout (\S+)$", got[1], re.M)
+        told = re.search(rb"^ahead: (\S+) (\S+)/checkout proofs/library (\S+)$", got[1], re.M)
         is_well = told and told[1] == told[3] and told[1].startswith(told[2]) == (words != ".ci/run")
         is_gone = told and not os.path.exists(told[2])
         yield row(f"{words}, the archive ahead", is_well and is_gone and ends(got, 0, "15 passed, 0 failed"), got)
