@@ -25,6 +25,8 @@ AFAR, FURTHER = "10.9.8.7", "10.9.9.7"
 CABLES = ((HERE, AFAR), (BESIDE, FURTHER))
 # What is asked for where rows cannot be: a network with a cable to another one.
 PROBE = "ip link add near type veth peer name far && exec unshare -n true"
+# The descriptors with which a registry serves: the three streams, the wait, and a socket each for TCP and UDP.
+SERVING = 6
 NOBODY, SUPERUSER = (0, 0), (1, 20, 0, 0, 0, 0, 0)
 PROGRAM_AT_515 = (70000, 1, 6, 515)
 # An rpcb of the program, version 1, without netid, address and owner.
@@ -104,6 +106,13 @@ AT_ONE = [
     ("at one address one that claims it is not answered", HERE, HERE, "by hand", FORGED, NONE),
     ("nor one there that claims the loopback", LOOPBACK, HERE, "by hand", FORGED, NONE),
     ("and nothing of theirs was taken there", HERE, HERE, "udp", IS_FORGED, FALSE),
+]
+# Where no descriptor is left the address that a datagram called is not known, and who calls from afar is not of this host.
+SCARCE = [
+    ("without a descriptor a SET by datagram from afar is denied", AFAR, HERE, "udp", SET_UDP, TOO_WEAK),
+    ("one of the loopback is taken", LOOPBACK, LOOPBACK, "udp", SET_UDP, TRUE),
+    ("GETADDR by datagram tells the address as it was set", AFAR, HERE, "udp", GETADDR, told("0.0.0.0")),
+    ("one from an own address is denied", HERE, HERE, "udp", SET_UDP, TOO_WEAK),
 ]
 INSECURE = [
     ("with --insecure a SET from afar is taken", AFAR, HERE, "tcp", SET, TRUE),
@@ -198,10 +207,11 @@ def run(*words):
     subprocess.run(words, check=True)
 
 
-def rows_of(program, afar, words, rows):
+def rows_of(program, afar, words, rows, descriptors):
     """Serves, and makes these calls: how many replies were right, and how many calls there were."""
     right = 0
-    with subprocess.Popen([program, "serve", "--port", "0", "--bind", *words], stdout=subprocess.PIPE) as it:
+    limit = ["prlimit", f"--nofile={descriptors}"] * (descriptors > 0)
+    with subprocess.Popen([*limit, program, "serve", "--port", "0", "--bind", *words], stdout=subprocess.PIPE) as it:
         try:
             port = int(it.stdout.readline().split()[-1])
             for name, source, target, transport, message, reply in rows:
@@ -218,8 +228,9 @@ def all_rows(program):
     run("ip", "link", "set", "lo", "up")
     run("ip", "address", "add", f"{ELSEWHERE}/32", "dev", "lo")
     afar = Afar()
-    served = ((["0.0.0.0"], STRICT), ([HERE], AT_ONE), (["0.0.0.0", "--insecure"], INSECURE))
-    done = [rows_of(program, afar, words, rows) for words, rows in served]
+    every = ["0.0.0.0"]
+    served = ((every, STRICT, 0), ([HERE], AT_ONE, 0), ([*every, "--insecure"], INSECURE, 0), (every, SCARCE, SERVING))
+    done = [rows_of(program, afar, *each) for each in served]
     afar.end()
     return all(right == count for right, count in done)
 
@@ -227,7 +238,7 @@ def all_rows(program):
 def afar_rows(program):
     """Whether all rows are as they should be, in a network of their own; none where none can be made."""
     own = ["unshare", "-rn"]
-    able = all(shutil.which(it) for it in ("unshare", "ip"))
+    able = all(shutil.which(it) for it in ("unshare", "ip", "prlimit"))
     if not able or subprocess.run([*own, "sh", "-c", PROBE], check=False, capture_output=True).returncode != 0:
         print("afar: skipped, since no network of its own with a cable can be made", flush=True)
         return []
