@@ -95,6 +95,13 @@ class Kept:
         self.process.returncode = os.waitstatus_to_exitcode(status)
         return used.ru_maxrss * 1024
 
+    def used(self):
+        """Ends it, and tells the seconds of processor time that it took."""
+        self.process.terminate()
+        _, status, used = os.wait4(self.process.pid, 0)
+        self.process.returncode = os.waitstatus_to_exitcode(status)
+        return used.ru_utime + used.ru_stime
+
     def client(self):
         return socket.create_connection((HOST, self.port), WAIT)
 
@@ -285,6 +292,15 @@ def full(program):
             yield from held(kept, clients, name)
 
 
+def resting(program):
+    """A client that says nothing for three seconds takes next to no processor time."""
+    with Kept(program) as kept, kept.client() as silent:
+        well = is_answered(silent, 1)
+        time.sleep(3)
+        used = kept.used()
+    yield "a silent client takes no processor time", well and used < 0.3, (well, used)
+
+
 def idle(program):
     """Those that hinder go after the time; who calls stays."""
     yield "who calls stays, the others go", *in_time(lambda: is_left_alone(program))
@@ -402,7 +418,7 @@ def answered(kept):
 
 def kept_rows(program, heap):
     """The rows, each whether it is as it should be."""
-    some = [at_once, lines, reset, full, idle, bounded, lambda it: unheard(it, heap)]
+    some = [at_once, lines, reset, full, resting, idle, bounded, lambda it: unheard(it, heap)]
     for rows in [*some, lambda it: growths(it, heap)] if heap else some:
         for name, is_well, told in rows(program):
             yield tell(f"oncrpc serve, {name}", is_well, told)

@@ -157,9 +157,9 @@ def places(program, folder):
         yield "and the others at the socket once these have gone", len(later) == 8 and all(later), later
 
 
-def refused(program, path, **more):
+def refused(program, path, port=0, **more):
     """What a program says that is asked for a socket at a path."""
-    words = [program, "serve", "--port", "0", "--local", path]
+    words = [program, "serve", "--port", str(port), "--local", path]
     try:
         ran = subprocess.run(words, check=False, capture_output=True, timeout=WAIT, **more)
     except subprocess.TimeoutExpired as it:
@@ -226,6 +226,21 @@ def in_the_way(program, folder):
             yield "a folder of the first name that is tried", well, os.listdir(folder)
 
 
+def unmade(program, heap, folder):
+    """Where another socket or random bytes cannot be had, no file is made at the path."""
+    with socket.create_server((HOST, 0)) as taken, socket.socket(type=socket.SOCK_DGRAM) as over_udp:
+        over_udp.bind((HOST, 0))
+        for over, held in (("tcp", taken), ("udp", over_udp)):
+            port = held.getsockname()[1]
+            said = refused(program, f"{folder}/socket", port)
+            wanted = 3, b"", f"socket fault: {HOST} {port} over {over}: address in use\n".encode()
+            yield f"a port that is taken over {over} beside it", said == wanted and os.listdir(folder) == [], said
+    if heap:
+        said = refused(program, f"{folder}/socket", env={**os.environ, "LD_PRELOAD": heap, "REFUSE_RANDOM": "1"})
+        well = said[:2] == (3, b"") and said[2].startswith(b"socket fault: random bytes: ") and os.listdir(folder) == []
+        yield "no random bytes beside it", well, said
+
+
 def forbidden(program, folder):
     """A folder that the user may not enter; it is the superuser who can ask."""
     if os.geteuid() == 0:
@@ -261,7 +276,7 @@ def growths(program, heap, folder):
 
 def local_rows(program, heap):
     """The rows, each whether it is as it should be."""
-    some = [served, places, in_the_way, forbidden]
+    some = [served, places, in_the_way, lambda it, folder: unmade(it, heap, folder), forbidden]
     for rows in [*some, lambda it, folder: growths(it, heap, folder)] if heap else some:
         umask = os.umask(0o022)
         with tempfile.TemporaryDirectory() as folder:
