@@ -23,6 +23,8 @@ HEADLINES = {
     "encode and decode": ["xdr_codec::encode", "xdr_codec::decode"],
     "normalise": ["rpc_record::normalise"],
     "serve": ["rpc_engine::serve"],
+    "the answer by who calls": ["registry_callers::append_answer_from"],
+    "many connections": ["registry_sessions::tables_interleave"],
     "read a text": ["xdr_lang::read"],
     "a task": ["oncrpc_tasks::task_over"],
 }

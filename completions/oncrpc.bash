@@ -6,11 +6,11 @@ _oncrpc() {
     [[ $before != = ]] || before=${COMP_WORDS[COMP_CWORD - 2]}
     COMPREPLY=()
     if ((COMP_CWORD == 1)); then
-        mapfile -t COMPREPLY < <(compgen -W "check show encode types records info call ping serve help --help --version" -- "$word")
+        mapfile -t COMPREPLY < <(compgen -W "check show encode types records messages info call ping serve help --help --version" -- "$word")
         return
     fi
     case ${COMP_WORDS[1]} in
-    help) mapfile -t COMPREPLY < <(compgen -W "check show encode types records info call ping serve" -- "$word") ;;
+    help) mapfile -t COMPREPLY < <(compgen -W "check show encode types records messages info call ping serve" -- "$word") ;;
     check)
         case $before in
         --name) mapfile -t COMPREPLY < <(compgen -W "int unsigned hyper unsigned-hyper bool opaque string" -- "$word") ;;
@@ -58,6 +58,15 @@ _oncrpc() {
         *) mapfile -t COMPREPLY < <(compgen -W "--limit --hex --help" -- "$word") ;;
         esac
         ;;
+    messages)
+        case $before in
+        --types) compopt -o filenames && mapfile -t COMPREPLY < <(compgen -f -- "$word") ;;
+        --dialect) mapfile -t COMPREPLY < <(compgen -W "rpcgen" -- "$word") ;;
+        --define) : ;;
+        --replies) compopt -o filenames && mapfile -t COMPREPLY < <(compgen -f -- "$word") ;;
+        *) mapfile -t COMPREPLY < <(compgen -W "--types --dialect --define --replies --json --help" -- "$word") ;;
+        esac
+        ;;
     info)
         case $before in
         --vers) mapfile -t COMPREPLY < <(compgen -W "2 3 4" -- "$word") ;;
@@ -103,9 +112,10 @@ _oncrpc() {
         --bind) : ;;
         --connections) : ;;
         --idle) : ;;
+        --local) : ;;
         --count) : ;;
         --datagrams) : ;;
-        *) mapfile -t COMPREPLY < <(compgen -W "--port --bind --connections --idle --verbose --count --datagrams --help" -- "$word") ;;
+        *) mapfile -t COMPREPLY < <(compgen -W "--port --bind --connections --idle --verbose --insecure --local --count --datagrams --help" -- "$word") ;;
         esac
         ;;
     esac

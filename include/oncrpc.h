@@ -19,12 +19,13 @@
  * Another NULL, or an overlap, is undefined behaviour, as it is of the C library. A call keeps no pointer: when it has
  * returned, the bytes are the caller's again.
  *
- * MEMORY. What is kept between calls is in a handle, oncrpc_declarations, oncrpc_registry or oncrpc_records, and is
- * given back by its free. All memory comes from malloc and realloc and goes to free. Where one of them refuses, the
- * answer is ONCRPC_NO_MEMORY, or of oncrpc_registry_answer the reply SYSTEM_ERR. No memory is lost then, and the call
- * may be made again. What a handle holds stays, with these exceptions: after oncrpc_declarations_read,
- * oncrpc_registry_start and oncrpc_records_start it holds nothing. After ONCRPC_NO_MEMORY of oncrpc_records_feed the
- * stream is lost. No length or count that the input declares reserves any memory.
+ * MEMORY. What is kept between calls is in a handle, oncrpc_declarations, oncrpc_registry, oncrpc_records or
+ * oncrpc_session, and is given back by its free. All memory comes from malloc and realloc and goes to free. Where one
+ * of them refuses, the answer is ONCRPC_NO_MEMORY, or the reply SYSTEM_ERR of a registry. No memory is lost then, and
+ * the call may be made again. What a handle holds stays, with these exceptions: after oncrpc_declarations_read,
+ * oncrpc_registry_start, oncrpc_records_start and oncrpc_session_start it holds nothing. After ONCRPC_NO_MEMORY of
+ * oncrpc_records_feed and oncrpc_session_feed the stream is lost. No length or count that the input declares reserves
+ * any memory.
  *
  * HANDLES. A handle begins as ONCRPC_NONE, which is all zeros: `oncrpc_records records = ONCRPC_NONE;`. Only the calls
  * below may look into it or write it. A copy of it must not be used beside it. A handle on the stack that was not set
@@ -68,11 +69,12 @@ uint32_t oncrpc_version(void);
 /* What a call answers. Each field of an outcome that a status does not speak of is 0. */
 enum {
     ONCRPC_OK = 0,              /* a value and no more; or done. `at`: how many bytes */
-    ONCRPC_MORE_FOLLOWS = 1,    /* a value, and then at least one more byte. `at`: how many bytes the value has */
+    ONCRPC_MORE_FOLLOWS = 1,    /* a value, and then at least one more byte. `at`: how many bytes the value has. Or all
+                                   that goes into the buffer, `at` bytes, and more waits */
     ONCRPC_REFUSED = 2,         /* the bytes are refused. `why`: a reason; `at`: the count of bytes before the place */
     ONCRPC_UNDECLARED = 3,      /* the text has an error. `why`: a fault; `inner`; `line`; `column` */
     ONCRPC_NO_KIND = 4,         /* the name is that of no kind */
-    ONCRPC_BAD_LIMITS = 5,      /* a limit, or the count of a fragment's bytes, is out of its range */
+    ONCRPC_BAD_LIMITS = 5,      /* a limit, or the count of a fragment's or of written bytes, is out of its range */
     ONCRPC_NO_MEMORY = 6,       /* out of memory: malloc or realloc refused */
     ONCRPC_NO_DECLARATIONS = 7, /* the handle holds no declarations */
     ONCRPC_NO_ROOM = 8,         /* a buffer is too small. `at`, or `count` of a writer: how many bytes are needed; of
@@ -93,7 +95,7 @@ enum {
     /* Of a registry alone. */
     ONCRPC_NO_REGISTRY = 18,  /* the handle holds no registry */
     ONCRPC_SILENCE = 19,      /* there is no reply: nothing is to be sent */
-    ONCRPC_NO_TRANSPORT = 20, /* the netid is neither tcp nor udp */
+    ONCRPC_NO_TRANSPORT = 20, /* the netid is none of those that the call takes: tcp, udp and local */
     ONCRPC_UNCHANGED = 21,    /* no row was added or removed */
 
     /* Of a stream of records alone. */
@@ -113,7 +115,12 @@ enum {
     ONCRPC_NO_MEMBER = 29,    /* the kind has no such member, there is no such kind, or no such type of the text */
 
     /* Of JSON that is read alone. */
-    ONCRPC_BAD_JSON = 30 /* the text spells no value. `why`: a reason; `at`, `line`, `column`: the place in the text */
+    ONCRPC_BAD_JSON = 30, /* the text spells no value. `why`: a reason; `at`, `line`, `column`: the place in the text */
+
+    /* Of sessions and of callers of a registry alone. */
+    ONCRPC_NO_SESSION = 31,   /* the handle holds no session */
+    ONCRPC_OUTPUT_WAITS = 32, /* nothing was taken: output is to be written first */
+    ONCRPC_NO_CALLER = 33     /* `peer` of the caller is none of the ONCRPC_PEER_ numbers */
 };
 
 /* Why bytes are refused: `why` of an outcome with ONCRPC_REFUSED. The place is that of the unit (four bytes) or of the
@@ -718,6 +725,7 @@ uint32_t oncrpc_registry_start(
  * proves nothing. So any peer that claims uid 0 is superuser, and can empty the registry, its own rows too, by one
  * datagram for each program and version. Any peer can fill it. Hand on SET and UNSET, procedures 1 and 2 of program
  * 100000, from peers that you trust alone, those of this host for one: examples/registry.c asks oncrpc_call_read first.
+ * oncrpc_registry_answer_from does so by itself.
  *
  * ONCRPC_OK: `at` bytes of reply were written, and the rest of the buffer is as it was. ONCRPC_SILENCE: the record is
  * no call, and is to be dropped. ONCRPC_NO_ROOM: `at` bytes are needed. What was asked for is done already, so the
@@ -729,6 +737,45 @@ uint32_t oncrpc_registry_start(
  * most 65507 bytes: a longer one is SYSTEM_ERR, and the rows are as they were. */
 uint32_t oncrpc_registry_answer(
     oncrpc_registry *registry,
+    const void *netid, size_t netid_count,
+    const void *record, size_t record_count,
+    uint8_t *buffer, size_t buffer_count,
+    oncrpc_outcome *outcome);
+
+/* Who sends a record: `peer` of a caller. */
+enum {
+    ONCRPC_PEER_REMOTE = 0,    /* someone at another host */
+    ONCRPC_PEER_LOCAL = 1,     /* someone at this host: from 127.x.x.x or ::1, or over a local socket */
+    ONCRPC_PEER_LOCAL_USER = 2 /* the user `uid` of this host, as the kernel says: SO_PEERCRED of a local socket */
+};
+
+/* What the program that has the socket knows of a call beside its bytes. All zeros are someone at another host, who is
+ * not trusted. */
+typedef struct {
+    uint32_t peer;      /* ONCRPC_PEER_.. */
+    uint32_t uid;       /* of ONCRPC_PEER_LOCAL_USER */
+    uint8_t host[4];    /* the address to which the call came, */
+    bool has_host;      /* where that is known, and is one of IPv4 */
+    bool trusts_remote; /* whether SET and UNSET of ONCRPC_PEER_REMOTE are taken */
+} oncrpc_caller;
+
+/* Answers a record as oncrpc_registry_answer does, with the same statuses, but by who sent it, after rpcbind. So it may
+ * be given what any peer sends, where `caller` is true:
+ *
+ * SET and UNSET of ONCRPC_PEER_REMOTE are refused, AUTH_ERROR with AUTH_TOOWEAK, and change no row, unless
+ * `trusts_remote` is true. The owner of ONCRPC_PEER_LOCAL_USER is `uid`, whatever its credential claims and of whatever
+ * flavor that is; that of another is what it claims, but nobody of another host is superuser. SET of a row that is
+ * there, with the same address and owner, is TRUE, so that a service that begins again may register again. GETADDR and
+ * GETVERSADDR tell an address at 0.0.0.0 at `host`, where `has_host` is true, and so as a remote client can connect to
+ * it. An address of IPv6, as one at ::, is told as it was set.
+ *
+ * `netid` may be local too, for a socket of this host (AF_UNIX). Over it, rows of the netid local are looked up.
+ *
+ * ONCRPC_NO_CALLER: `peer` is above 2, and nothing is changed. Of ONCRPC_NO_REGISTRY, _NO_TRANSPORT and _NO_CALLER the
+ * first is told. */
+uint32_t oncrpc_registry_answer_from(
+    oncrpc_registry *registry,
+    const oncrpc_caller *caller,
     const void *netid, size_t netid_count,
     const void *record, size_t record_count,
     uint8_t *buffer, size_t buffer_count,
@@ -929,6 +976,88 @@ void oncrpc_records_free(oncrpc_records *records);
  * ONCRPC_OK. ONCRPC_BAD_LIMITS: the count is above ONCRPC_MOST_RECORD, and `header` is as it was. */
 uint32_t oncrpc_record_header(size_t count, bool is_last, uint8_t header[4]);
 
+/* ---- connections to a registry
+ *
+ * A session is one connection to a registry, which many sessions share. It takes what was received, in any pieces, and
+ * hands out what is to be sent. The caller has the socket, waits until it can be read or written, and keeps one session
+ * for each connection:
+ *
+ *     oncrpc_session_start(&session, "tcp", 3, &who, 65536, &outcome)                       when it was accepted
+ *
+ *     while ((status = oncrpc_session_feed(&session, &registry, piece, count, &outcome)) == ONCRPC_OK) {
+ *         piece += outcome.at, count -= outcome.at;                                         when it was read
+ *     }
+ *     while (oncrpc_session_output(&session, buffer, sizeof buffer, &outcome) <= ONCRPC_MORE_FOLLOWS && outcome.at
+ *         && (sent = send(socket, buffer, outcome.at, MSG_NOSIGNAL)) > 0) {                 when it can be written
+ *         oncrpc_session_took(&session, sent, &outcome);
+ *     }
+ *
+ * Where the first loop ends with ONCRPC_MORE_WANTED, the next piece is received. With ONCRPC_OUTPUT_WAITS the rest of
+ * the piece is to be fed again after a write, and nothing is to be received before. With ONCRPC_REFUSED and
+ * ONCRPC_NO_MEMORY the connection is to be closed, once what waits was written. A call answers one record at most, so
+ * that sessions may take turns. Each keeps at most 65536 bytes of a record, twice its bound, and 16777244 bytes of a
+ * reply. A client that does not read makes it keep no more, and is not read.
+ *
+ * Each call below that is given an outcome fills it: `at` and `why` where they are spoken of, and 0 in each other field
+ * and at each other status. */
+
+/* A session of one connection, or none. It begins as ONCRPC_NONE, and is given back by oncrpc_session_free. */
+typedef struct {
+    void *at;
+    bool live;
+} oncrpc_session;
+
+/* Starts a session in `session`, before the first byte of a connection of `caller`, and gives back what that held
+ * before. `netid` is tcp or, for a socket of this host (AF_UNIX), local, and may be NULL where its count is 0. While
+ * more than `bound` bytes of its output wait, it takes nothing.
+ * ONCRPC_OK. ONCRPC_NO_TRANSPORT, and else _NO_CALLER, _NO_MEMORY: it holds none. */
+uint32_t oncrpc_session_start(
+    oncrpc_session *session,
+    const void *netid, size_t netid_count,
+    const oncrpc_caller *caller,
+    uint32_t bound,
+    oncrpc_outcome *outcome);
+
+/* Takes bytes of `piece`, which may be empty, up to the end of a record, and answers that record: as
+ * oncrpc_registry_answer_from does, by the session's transport and caller. The reply, where there is one, stands behind
+ * the output, behind the header of a last fragment. What waits for oncrpc_registry_reply stays. `piece` may be NULL
+ * where its count is 0.
+ *
+ * ONCRPC_OK: a record was answered. The first `at` bytes of the piece were taken, the last of which is the record's
+ * last; the others are to be fed again. ONCRPC_MORE_WANTED: all bytes were taken, and no record is whole.
+ * ONCRPC_OUTPUT_WAITS: more bytes wait than the bound, and none was taken.
+ *
+ * ONCRPC_REFUSED: `why` is ONCRPC_TOO_LONG, and `at` the place of the header that brings its record above 65536 bytes.
+ * ONCRPC_NO_MEMORY: the record that had begun, or its reply, is lost. These two are answered from then on, whatever is
+ * fed, with the same `why` and `at`. ONCRPC_NO_SESSION, and else _NO_REGISTRY: nothing is changed. At each status but
+ * ONCRPC_OK the rows and the output are as they were. Where memory for an answer alone is refused, the reply is
+ * SYSTEM_ERR, as it is of oncrpc_registry_answer. */
+uint32_t oncrpc_session_feed(
+    oncrpc_session *session,
+    oncrpc_registry *registry,
+    const void *piece, size_t piece_count,
+    oncrpc_outcome *outcome);
+
+/* Puts the first bytes of the output into the front of `buffer`, as many as go into it. They wait on, until
+ * oncrpc_session_took tells that they were written. `buffer` may be NULL where its count is 0.
+ *
+ * ONCRPC_OK: the `at` bytes are all that wait, 0 where none does, and the rest of the buffer is as it was.
+ * ONCRPC_MORE_FOLLOWS: the buffer is full, `at` is `buffer_count`, and more wait. ONCRPC_NO_SESSION: the buffer is as
+ * it was. The session stays as it is. It takes no memory. */
+uint32_t oncrpc_session_output(
+    oncrpc_session *session,
+    uint8_t *buffer, size_t buffer_count,
+    oncrpc_outcome *outcome);
+
+/* Tells that the first `count` bytes of the output were written; then they wait no longer.
+ * ONCRPC_OK: `at` bytes wait. ONCRPC_BAD_LIMITS: fewer than `count` wait. ONCRPC_NO_SESSION. At these two nothing is
+ * changed. It takes no memory. */
+uint32_t oncrpc_session_took(oncrpc_session *session, size_t count, oncrpc_outcome *outcome);
+
+/* Gives back what `session` holds, if anything, with the output that waits. It then holds none, so that a second call
+ * does nothing. */
+void oncrpc_session_free(oncrpc_session *session);
+
 /* ---- numbers as texts, to be printed
  *
  * Each is a text of this file that stays for ever, and never NULL. */
@@ -937,7 +1066,7 @@ uint32_t oncrpc_record_header(size_t count, bool is_last, uint8_t header[4]);
 static inline const char *oncrpc_status_text(uint32_t status) {
     switch (status) {
     case ONCRPC_OK: return "done";
-    case ONCRPC_MORE_FOLLOWS: return "done, and more bytes follow the value";
+    case ONCRPC_MORE_FOLLOWS: return "done, and more bytes follow";
     case ONCRPC_REFUSED: return "the bytes are refused";
     case ONCRPC_UNDECLARED: return "the declarations have an error";
     case ONCRPC_NO_KIND: return "the name is that of no kind";
@@ -956,7 +1085,7 @@ static inline const char *oncrpc_status_text(uint32_t status) {
     case ONCRPC_NOT_AUTH_SYS: return "no body of AUTH_SYS";
     case ONCRPC_NO_REGISTRY: return "the handle holds no registry";
     case ONCRPC_SILENCE: return "there is no reply";
-    case ONCRPC_NO_TRANSPORT: return "the netid is neither tcp nor udp";
+    case ONCRPC_NO_TRANSPORT: return "the netid is no transport of the call";
     case ONCRPC_UNCHANGED: return "no row was added or removed";
     case ONCRPC_NO_READER: return "the handle holds no reader of records";
     case ONCRPC_MORE_WANTED: return "more bytes are wanted";
@@ -967,6 +1096,9 @@ static inline const char *oncrpc_status_text(uint32_t status) {
     case ONCRPC_NO_NUMBER: return "the part has no number";
     case ONCRPC_NO_MEMBER: return "the kind has no such member";
     case ONCRPC_BAD_JSON: return "the JSON text spells no value";
+    case ONCRPC_NO_SESSION: return "the handle holds no session";
+    case ONCRPC_OUTPUT_WAITS: return "output is to be written first";
+    case ONCRPC_NO_CALLER: return "there is no such caller";
     default: return "an unknown status";
     }
 }

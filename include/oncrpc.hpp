@@ -14,8 +14,9 @@
 // VIEWS. Bytes and std::string_view may be empty, and lead to NULL. What is read from bytes, a call, a reply or a part,
 // has views into them, and serves as long as they stay.
 //
-// HANDLES. Declarations, Registry and Records own a handle. They are moved and not copied. One that was moved from, or
-// made without its read or start, holds none, and its calls say so. POINTERS, THREADS and STACK of oncrpc.h hold here.
+// HANDLES. Declarations, Registry, Records and Session own a handle. They are moved and not copied. One that was moved
+// from, or made without its read or start, holds none, and its calls say so. POINTERS, THREADS and STACK of oncrpc.h
+// hold here.
 #ifndef ONCRPC_HPP
 #define ONCRPC_HPP
 
@@ -85,6 +86,9 @@ enum class Status : std::uint32_t {
     no_number = ONCRPC_NO_NUMBER,
     no_member = ONCRPC_NO_MEMBER,
     bad_json = ONCRPC_BAD_JSON,
+    no_session = ONCRPC_NO_SESSION,
+    output_waits = ONCRPC_OUTPUT_WAITS,
+    no_caller = ONCRPC_NO_CALLER,
 };
 
 /// Why bytes are refused, and from wrong_item on why items are.
@@ -986,8 +990,42 @@ struct AuthSys {
 
 // ---- The registry
 
-/// What a record came over.
-enum class Transport { tcp, udp };
+/// What a record came over: `local` is a Unix socket of the host, for Registry::answer_from and Session::start.
+enum class Transport { tcp, udp, local };
+
+namespace detail {
+inline std::string_view netid(Transport over) noexcept {
+    return over == Transport::tcp ? "tcp" : over == Transport::udp ? "udp" : "local";
+}
+} // namespace detail
+
+/// Who sends a record.
+enum class Peer : std::uint32_t {
+    remote = ONCRPC_PEER_REMOTE,
+    local = ONCRPC_PEER_LOCAL,
+    local_user = ONCRPC_PEER_LOCAL_USER,
+};
+
+/// What the program that has the socket knows of a call beside its bytes: by default someone at another host, who is
+/// not trusted.
+struct Caller {
+    Peer peer = Peer::remote;
+    std::uint32_t uid = 0; // of Peer::local_user
+    std::optional<std::array<std::uint8_t, 4>> host{};
+    bool trusts_remote = false;
+
+    /// The same for a call of oncrpc.h.
+    oncrpc_caller told() const noexcept {
+        oncrpc_caller made{};
+        made.peer = static_cast<std::uint32_t>(peer);
+        made.uid = uid;
+        made.has_host = host.has_value();
+        if (host)
+            std::copy(host->begin(), host->end(), made.host);
+        made.trusts_remote = trusts_remote;
+        return made;
+    }
+};
 
 /// A row of a registry, whose texts stand in the Rows.
 struct Row {
@@ -1066,11 +1104,22 @@ class Registry {
     /// Answers a record. `reply` is filled anew; false where there is none, and nothing is to be sent. Where its memory
     /// is refused by an exception, the reply waits for Registry::reply, and what was asked for is done.
     [[nodiscard]] Answer<bool> answer(Transport over, Bytes record, Buffer &reply) {
-        const std::string_view netid = over == Transport::tcp ? "tcp" : "udp";
+        const std::string_view netid = detail::netid(over);
         oncrpc_outcome outcome{};
         const auto status = static_cast<Status>(
             oncrpc_registry_answer(handle_.get(), detail::lent(netid), netid.size(), record.data(), record.size(),
                                    reply.data(), reply.size(), &outcome));
+        return placed(status, outcome, reply);
+    }
+
+    /// The same by who sent the record, as oncrpc_registry_answer_from says.
+    [[nodiscard]] Answer<bool> answer_from(const Caller &caller, Transport over, Bytes record, Buffer &reply) {
+        const std::string_view netid = detail::netid(over);
+        const oncrpc_caller told = caller.told();
+        oncrpc_outcome outcome{};
+        const auto status = static_cast<Status>(
+            oncrpc_registry_answer_from(handle_.get(), &told, detail::lent(netid), netid.size(), record.data(),
+                                        record.size(), reply.data(), reply.size(), &outcome));
         return placed(status, outcome, reply);
     }
 
@@ -1143,6 +1192,73 @@ class Registry {
     }
 
     detail::Owned<oncrpc_registry, oncrpc_registry_free> handle_;
+};
+
+// ---- Connections to a registry
+
+/// What a session did with a piece. Status::ok: the first `used` bytes were taken, and the record that they end was
+/// answered. more_wanted: all were taken. output_waits: none was, and output is to be written first.
+struct Fed {
+    Status status;
+    std::size_t used;
+};
+
+/// One connection to a registry, or none.
+class Session {
+  public:
+    Session() noexcept = default;
+
+    /// A session before the first byte of a connection of this caller, over Transport::tcp or local. While more than
+    /// `bound` bytes of its output wait, it takes nothing.
+    [[nodiscard]] static Answer<Session> start(Transport over, const Caller &caller, std::uint32_t bound) {
+        Session made;
+        const std::string_view netid = detail::netid(over);
+        const oncrpc_caller told = caller.told();
+        oncrpc_outcome outcome{};
+        const auto status = static_cast<Status>(oncrpc_session_start(
+            made.handle_.get(), detail::lent(netid), netid.size(), &told, bound, &outcome));
+        if (status != Status::ok)
+            return detail::fails<Session>(Error(status, outcome));
+        return made;
+    }
+
+    /// Takes bytes of the piece up to the end of a record, which the registry answers. By Status::refused and no_memory
+    /// it fails from then on, and the connection is to be closed, once what waits was written.
+    [[nodiscard]] Answer<Fed> feed(Registry &registry, Bytes piece) {
+        oncrpc_outcome outcome{};
+        const auto status = static_cast<Status>(
+            oncrpc_session_feed(handle_.get(), registry.handle(), piece.data(), piece.size(), &outcome));
+        if (status != Status::ok && status != Status::more_wanted && status != Status::output_waits)
+            return detail::fails<Fed>(Error(status, outcome));
+        return Fed{status, status == Status::more_wanted ? piece.size() : outcome.at};
+    }
+
+    /// Puts the first bytes of the output into `buffer`, which is made as short as they are where fewer wait than go
+    /// into it. They wait on, until Session::took tells that they were written.
+    Answer<void> output(Buffer &buffer) {
+        oncrpc_outcome outcome{};
+        const auto status =
+            static_cast<Status>(oncrpc_session_output(handle_.get(), buffer.data(), buffer.size(), &outcome));
+        buffer.resize(outcome.at);
+        if (status != Status::ok && status != Status::more_follows)
+            return detail::fails<void>(Error(status, outcome));
+        return Answer<void>();
+    }
+
+    /// Tells that the first `count` bytes of the output were written, and says how many wait then.
+    Answer<std::size_t> took(std::size_t count) {
+        oncrpc_outcome outcome{};
+        const auto status = static_cast<Status>(oncrpc_session_took(handle_.get(), count, &outcome));
+        if (status != Status::ok)
+            return detail::fails<std::size_t>(Error(status, outcome));
+        return std::size_t{outcome.at};
+    }
+
+    /// The handle, for a call of oncrpc.h. It stays this object's.
+    oncrpc_session *handle() noexcept { return handle_.get(); }
+
+  private:
+    detail::Owned<oncrpc_session, oncrpc_session_free> handle_;
 };
 
 // ---- Records in fragments

@@ -3,12 +3,15 @@ with."""
 import json
 import subprocess
 
+from telling import tell
+from timing import LIMIT
+
 HOST, SIX = "127.0.0.1", "::1"
 
 
 def ask(words, given=None):
     """The status and both streams of a command."""
-    ended = subprocess.run(words, capture_output=True, text=True, timeout=60, check=False, input=given)
+    ended = subprocess.run(words, capture_output=True, text=True, timeout=LIMIT, check=False, input=given)
     return ended.returncode, ended.stdout, ended.stderr
 
 
@@ -19,8 +22,7 @@ def rows_of(words):
 
 def told(name, got, wanted, of):
     """Whether a row is as it should be, which is printed."""
-    print(f"{name}: {f'as of {of}' if got == wanted else (got, wanted)}", flush=True)
-    return got == wanted
+    return tell(name, got == wanted, (got, wanted), f"as of {of}")
 
 
 class Caller:
@@ -43,5 +45,4 @@ class Caller:
 def has_answered(name, got, line):
     """Whether a ping gave this line, but for the time that it took."""
     well = got[0] == 0 and got[2] == "" and got[1].startswith(line) and got[1].endswith(" microseconds\n")
-    print(f"{name}: {'answered' if well else got}", flush=True)
-    return well
+    return tell(name, well, got, "answered")

@@ -6,9 +6,10 @@ import os
 import re
 import shutil
 import subprocess
-import time
 
 from clients_use.asking import HOST, Caller, ask, has_answered, rows_of, told
+from telling import tell
+from timing import WAIT, wait_until
 
 SETTINGS = """NFS_CORE_PARAM {
     NFS_Protocols = 3, 4; mount_path_pseudo = true; Enable_NLM = false; Enable_RQUOTA = false;
@@ -49,10 +50,7 @@ class Ganesha:
         self.process = subprocess.Popen(words, stdout=subprocess.DEVNULL, stderr=subprocess.DEVNULL)
 
     def __enter__(self):
-        for _ in range(600):
-            if ask(["showmount", "-e", HOST])[0] == 0:
-                break
-            time.sleep(0.1)
+        wait_until(lambda: ask(["showmount", "-e", HOST])[0] == 0, 2 * WAIT)
         return self
 
     def __exit__(self, *_):
@@ -126,8 +124,7 @@ def folder_rows(nfs, handle, over):
     """FSINFO, GETATTR, LOOKUP and READDIRPLUS of the folder, beside nfs-ls."""
     got = nfs.result("nfs.V3.FSINFO", *ROOT_USER, *over, given={"fsroot": {"data": handle}})
     well = got["case"] == "NFS3_OK" and got["resok"]["rtmax"] > 0
-    print(f"oncrpc call ganesha nfs.V3.FSINFO {' '.join(over)}: {'a value' if well else got}")
-    yield well
+    yield tell(f"oncrpc call ganesha nfs.V3.FSINFO {' '.join(over)}", well, got, "a value")
     got = nfs.result("nfs.V3.GETATTR", *ROOT_USER, *over, given={"object": {"data": handle}})
     found = got["resok"]["obj_attributes"]["type"]
     yield told(f"oncrpc call ganesha GETATTR of the folder {' '.join(over)}", found, "NF3DIR", "RFC 1813")
@@ -183,7 +180,6 @@ def ganesha_rows(program, root, folder):
             yield from exported_rows(mount, over)
             yield from unmounted_rows(mount, over)
             handle, got = mounted(mount, "/exp", over)
-            print(f"oncrpc call ganesha mount.V3.MNT {' '.join(over)}: {'a handle' if handle else got}")
-            yield bool(handle)
+            yield tell(f"oncrpc call ganesha mount.V3.MNT {' '.join(over)}", handle, got, "a handle")
             yield from folder_rows(nfs, handle, over)
             yield from file_rows(nfs, handle, over)

@@ -2,9 +2,9 @@
 a client says that rpcgen makes of it, too."""
 import shutil
 import subprocess
-import time
 
 from clients_use.asking import HOST, Caller, ask, has_answered, rows_of, told
+from timing import wait_until
 
 GIVEN = {
     "filename": "sillyprog",
@@ -64,15 +64,17 @@ def asked_rows(program, folder, over):
     yield told(f"a procedure that it does not have {' '.join(over)}", got, wanted, "RFC 5531")
 
 
+def is_registered():
+    """Whether the server is there over TCP and over UDP: it registers itself once for each."""
+    return {row[2] for row in rows_of(["rpcinfo", "-p", HOST]) if row[0] == "536870914"} >= {"tcp", "udp"}
+
+
 def generated_rows(program, root, folder):
     """The rows, over TCP and over UDP."""
     build(root, folder)
     with subprocess.Popen([f"{folder}/filed"]) as server:
         try:
-            for _ in range(100):
-                if any(row[0] == "536870914" for row in rows_of(["rpcinfo", "-p", HOST])):
-                    break
-                time.sleep(0.1)
+            wait_until(is_registered)
             for over in ([], ["--udp"]):
                 yield from asked_rows(program, folder, over)
         finally:

@@ -3,6 +3,7 @@ of it."""
 import re
 
 from clients_use.asking import HOST, SIX, Caller, ask, has_answered, rows_of, told
+from telling import tell
 
 
 def port_rows(program, root, whose, over):
@@ -54,8 +55,7 @@ def pinged_rows(program, whose, over):
     yield has_answered(f"oncrpc ping {whose} 100000 {' '.join(over)}", got, line)
     got = ask([program, "ping", HOST, "100000.2", "--count", "2", *over])
     well = got[0] == 0 and len(got[1].splitlines()) == 2
-    print(f"oncrpc ping {whose} --count 2 {' '.join(over)}: {'two lines' if well else got}")
-    yield well
+    yield tell(f"oncrpc ping {whose} --count 2 {' '.join(over)}", well, got, "two lines")
 
 
 def registry_rows(program, root, whose):

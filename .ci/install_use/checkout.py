@@ -6,6 +6,8 @@ import stat
 import subprocess
 
 from refuse_use.standins import Tree, heed_signals
+from telling import line_of
+from timing import LIMIT
 
 # The functions, each with a page of its own, and other lines of the header.
 HEADER = """/* oncrpc_told(in a comment */
@@ -99,7 +101,7 @@ class Checkout(Tree):
         env = {key: it for key, it in os.environ.items() if key != "DESTDIR"}
         env["PATH"] = f"{commands}:{env['PATH']}" if commands else env["PATH"]
         env.update({"DESTDIR": how.pop("destdir")} if "destdir" in how else {})
-        how = {"preexec_fn": heed_signals, "capture_output": True, "text": True, "timeout": 60, "check": False, **how}
+        how = {"preexec_fn": heed_signals, "capture_output": True, "text": True, "timeout": LIMIT, "check": False, **how}
         ran = subprocess.run([f"{self.at}/{script}", *words], cwd=cwd or self.to, env=env, **how)
         return ran.returncode, ran.stdout, ran.stderr
 
@@ -137,7 +139,7 @@ def is_refused(got, status, told):
 
 def row(what, well, *found):
     """What is printed of a row, and whether it is well."""
-    return f"{what}: {'as it should be' if well else found}", bool(well)
+    return line_of(what, well, found), bool(well)
 
 
 def put_in_way(at, kind, other):

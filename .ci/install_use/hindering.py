@@ -5,11 +5,11 @@ import resource
 import shutil
 import signal
 import subprocess
-import time
 
 from install_use.checkout import MANIFEST, PROGRAM, Checkout
 from install_use.checkout import found_below, is_installed, is_refused, notes_of, put_in_way, row
 from refuse_use.standins import heed_signals
+from timing import LIMIT, wait_until
 
 NOT_OURS = " is there, and no ./install put it there"
 # What is in the way at first, and what is said of it.
@@ -208,17 +208,14 @@ def stopped(folder):
     tree = Checkout(folder, "stopped")
     for number in (signal.SIGINT, signal.SIGTERM, signal.SIGHUP, signal.SIGKILL):
         root, begun = f"{tree.to}/{number}", f"{tree.at}/begun{number}"
-        does = f"for it; do :; done; echo half >\"$it\"; echo >'{begun}'; exec sleep 60"
+        does = f"for it; do :; done; echo half >\"$it\"; echo >'{begun}'; exec sleep {LIMIT}"
         commands = stand_in(tree, "cp", "*'/man/oncrpc.3 '*", does)
         env = {**os.environ, "PATH": f"{commands}:{os.environ['PATH']}", "DESTDIR": ""}
         how = {"stderr": subprocess.PIPE, "start_new_session": True, "preexec_fn": heed_signals, "text": True}
         with subprocess.Popen([f"{tree.at}/install", root], env=env, **how) as ran:
-            for _ in range(1000):
-                if os.path.exists(begun):
-                    break
-                time.sleep(0.01)
+            wait_until(lambda: os.path.exists(begun))
             os.killpg(ran.pid, number)
-            said = ran.communicate(timeout=60)[1]
+            said = ran.communicate(timeout=LIMIT)[1]
         parts = [it for it in found_below(root) if "part" in it]
         wanted = (-9, "", 1) if number == signal.SIGKILL else (3, "oncrpc: stopped by a signal\n", 0)
         well = (ran.returncode, len(parts)) == wanted[::2] and said.endswith(wanted[1])

@@ -4,7 +4,7 @@
 
 #include "growths.h"
 
-void check_values(void);    /* values.c, with each growth refused in turn, and so the next nine */
+void check_values(void);    /* values.c, with each growth refused in turn, and so the next ten */
 void check_written(void);   /* writing.c: values by their items, each reason against them by its name */
 void check_paths(void);     /* paths.c: one part by its path, and its number */
 void check_kinds(void);     /* kinds.c: kinds and their members */
@@ -13,6 +13,7 @@ void check_dialect(void);   /* json.c: texts in rpcgen's dialect */
 void check_messages(void);  /* messages.c */
 void check_streams(void);   /* streams.c */
 void check_registry(void);  /* registry.c */
+void check_sessions(void);  /* sessions.c: connections to a registry, and answers by who calls */
 void check_addresses(void); /* addresses.c */
 void check_hostile(void);   /* hostile.c: each row cut and changed, the deepest value and text */
 void check_names(void);     /* names.c: each reason, fault, type, role and state by its name, and as a text */

@@ -10,7 +10,8 @@
 #include "oncrpc.h"
 
 #define NUMBER(name, number) _Static_assert(ONCRPC_##name == number, #name " is " #number)
-#define SIZE(type, size) _Static_assert(sizeof(oncrpc_##type) == size && _Alignof(oncrpc_##type) == 8, #type)
+#define SIZE(type, size, unit) \
+    _Static_assert(sizeof(oncrpc_##type) == size && _Alignof(oncrpc_##type) == unit, #type)
 #define FIELD(type, field, place, size) \
     _Static_assert(offsetof(oncrpc_##type, field) == place && sizeof(((oncrpc_##type *)0)->field) == size, #type #field)
 
@@ -49,6 +50,9 @@ NUMBER(NO_SUCH_PART, 27);
 NUMBER(NO_NUMBER, 28);
 NUMBER(NO_MEMBER, 29);
 NUMBER(BAD_JSON, 30);
+NUMBER(NO_SESSION, 31);
+NUMBER(OUTPUT_WAITS, 32);
+NUMBER(NO_CALLER, 33);
 
 NUMBER(BAD_BOOL, 1);
 NUMBER(BAD_NUMBERED, 2);
@@ -120,6 +124,10 @@ NUMBER(ITEM_FLAG, 3);
 NUMBER(ITEM_COUNT, 4);
 NUMBER(ITEM_CONTENT, 5);
 
+NUMBER(PEER_REMOTE, 0);
+NUMBER(PEER_LOCAL, 1);
+NUMBER(PEER_LOCAL_USER, 2);
+
 NUMBER(SUCCESS, 0);
 NUMBER(PROG_UNAVAIL, 1);
 NUMBER(PROG_MISMATCH, 2);
@@ -134,18 +142,18 @@ NUMBER(MOST_DEPTH, 4096);
 NUMBER(MOST_BYTES, 16777216);
 NUMBER(MOST_RECORD, 2147483647);
 
-SIZE(outcome, 32);
+SIZE(outcome, 32, 8);
 FIELD(outcome, at, 0, 8);
 FIELD(outcome, line, 8, 8);
 FIELD(outcome, column, 16, 8);
 FIELD(outcome, why, 24, 4);
 FIELD(outcome, inner, 28, 4);
 
-SIZE(declarations, 16);
+SIZE(declarations, 16, 8);
 FIELD(declarations, at, 0, 8);
 FIELD(declarations, live, 8, 1);
 
-SIZE(value_part, 48);
+SIZE(value_part, 48, 8);
 FIELD(value_part, at, 0, 8);
 FIELD(value_part, count, 8, 8);
 FIELD(value_part, name_at, 16, 8);
@@ -155,39 +163,39 @@ FIELD(value_part, kind, 36, 4);
 FIELD(value_part, xdr_type, 40, 4);
 FIELD(value_part, role, 44, 4);
 
-SIZE(parts_outcome, 32);
+SIZE(parts_outcome, 32, 8);
 FIELD(parts_outcome, at, 0, 8);
 FIELD(parts_outcome, parts, 8, 8);
 FIELD(parts_outcome, names, 16, 8);
 FIELD(parts_outcome, why, 24, 4);
 
-SIZE(number, 16);
+SIZE(number, 16, 8);
 FIELD(number, signed_number, 0, 8);
 FIELD(number, number, 8, 8);
 
-SIZE(kind, 24);
+SIZE(kind, 24, 8);
 FIELD(kind, members, 0, 8);
 FIELD(kind, xdr_type, 8, 4);
 FIELD(kind, size, 12, 4);
 FIELD(kind, item, 16, 4);
 
-SIZE(member, 24);
+SIZE(member, 24, 8);
 FIELD(member, name_count, 0, 8);
 FIELD(member, number, 8, 8);
 FIELD(member, kind, 16, 4);
 
-SIZE(item, 40);
+SIZE(item, 40, 8);
 FIELD(item, form, 0, 4);
 FIELD(item, signed_number, 8, 8);
 FIELD(item, number, 16, 8);
 FIELD(item, at, 24, 8);
 FIELD(item, count, 32, 8);
 
-SIZE(part, 16);
+SIZE(part, 16, 8);
 FIELD(part, at, 0, 8);
 FIELD(part, count, 8, 8);
 
-SIZE(call, 80);
+SIZE(call, 80, 8);
 FIELD(call, xid, 0, 4);
 FIELD(call, rpc_version, 4, 4);
 FIELD(call, program, 8, 4);
@@ -199,7 +207,7 @@ FIELD(call, credential, 32, 16);
 FIELD(call, verifier, 48, 16);
 FIELD(call, arguments, 64, 16);
 
-SIZE(reply, 56);
+SIZE(reply, 56, 8);
 FIELD(reply, xid, 0, 4);
 FIELD(reply, state, 4, 4);
 FIELD(reply, low, 8, 4);
@@ -209,7 +217,7 @@ FIELD(reply, verifier_flavor, 20, 4);
 FIELD(reply, verifier, 24, 16);
 FIELD(reply, results, 40, 16);
 
-SIZE(auth_sys, 96);
+SIZE(auth_sys, 96, 8);
 FIELD(auth_sys, stamp, 0, 4);
 FIELD(auth_sys, uid, 4, 4);
 FIELD(auth_sys, gid, 8, 4);
@@ -217,21 +225,32 @@ FIELD(auth_sys, gid_count, 12, 4);
 FIELD(auth_sys, gids, 16, 64);
 FIELD(auth_sys, machine, 80, 16);
 
-SIZE(registry, 16);
+SIZE(caller, 16, 4);
+FIELD(caller, peer, 0, 4);
+FIELD(caller, uid, 4, 4);
+FIELD(caller, host, 8, 4);
+FIELD(caller, has_host, 12, 1);
+FIELD(caller, trusts_remote, 13, 1);
+
+SIZE(session, 16, 8);
+FIELD(session, at, 0, 8);
+FIELD(session, live, 8, 1);
+
+SIZE(registry, 16, 8);
 FIELD(registry, at, 0, 8);
 FIELD(registry, live, 8, 1);
 
-SIZE(registry_row, 56);
+SIZE(registry_row, 56, 8);
 FIELD(registry_row, program, 0, 4);
 FIELD(registry_row, version, 4, 4);
 FIELD(registry_row, netid, 8, 16);
 FIELD(registry_row, address, 24, 16);
 FIELD(registry_row, owner, 40, 16);
 
-SIZE(rows_outcome, 16);
+SIZE(rows_outcome, 16, 8);
 FIELD(rows_outcome, rows, 0, 8);
 FIELD(rows_outcome, bytes, 8, 8);
 
-SIZE(records, 16);
+SIZE(records, 16, 8);
 FIELD(records, at, 0, 8);
 FIELD(records, live, 8, 1);

@@ -18,6 +18,7 @@ static int round_of(long at, int all_later) {
     check_messages();
     check_streams();
     check_registry();
+    check_sessions();
     check_addresses();
     long asked = growths();
     refuse_growth(0, 0);

@@ -6,6 +6,8 @@ import shutil
 import socket
 import subprocess
 
+from timing import WAIT
+
 from .running import ROOT, compiled, passed, run
 
 # What rpcgen makes, by its words, and each program of ours that is built with it.
@@ -41,18 +43,18 @@ def asked_by_libtirpc(room):
     with socket.create_server(("127.0.0.1", 0)) as listening:
         words = [f"{room}/client", str(listening.getsockname()[1])]
         with subprocess.Popen(words, stdout=subprocess.PIPE, text=True) as client:
-            listening.settimeout(60)
+            listening.settimeout(WAIT)
             here, _ = listening.accept()
             with here, subprocess.Popen([f"{room}/nfsd", "serve"], stdin=here) as server:
                 here.close()
-                said = client.communicate(timeout=60)[0]
-                return said, client.returncode, server.wait(60)
+                said = client.communicate(timeout=WAIT)[0]
+                return said, client.returncode, server.wait(WAIT)
 
 
 def asks_libtirpc(room):
     """What the example's client prints of libtirpc's server, and both statuses."""
     with socket.create_server(("127.0.0.1", 0)) as listening:
-        there = socket.create_connection(listening.getsockname(), 60)
+        there = socket.create_connection(listening.getsockname(), WAIT)
         here, _ = listening.accept()
         here.settimeout(None)
         there.settimeout(None)
@@ -60,7 +62,7 @@ def asks_libtirpc(room):
             here.close()
             ran = run([f"{room}/nfsd", "ask"], stdin=there)
             there.close()
-            return ran.stdout, ran.returncode, server.wait(60)
+            return ran.stdout, ran.returncode, server.wait(WAIT)
 
 
 def peers(library, room, wanted):

@@ -4,6 +4,8 @@ import struct
 import subprocess
 import sys
 
+from timing import WAIT
+
 from .expected import LISTED
 from .running import ROOT, compiled, passed, run, tools
 
@@ -20,7 +22,7 @@ def reply(*results):
 def ask_datagrams(port):
     """NULL, bytes that are no call, and the port of the registry itself: two replies."""
     with socket.socket(socket.AF_INET, socket.SOCK_DGRAM) as asking:
-        asking.settimeout(60)
+        asking.settimeout(WAIT)
         for message in (call(0), b"no call", call(3, 100000, 2, 17, 0)):
             asking.sendto(message, ("127.0.0.1", port))
         return [asking.recv(65536), asking.recv(65536)] == [reply(), reply(port)]
@@ -32,7 +34,7 @@ def ask_connection(port, is_new):
     listed = [number for row in [*own, [1, 300, 7, 6, 2049], [0]] for number in row]
     wanted = b"".join(struct.pack(">I", 0x80000000 | len(told)) + told for told in (reply(is_new), reply(*listed)))
     got = b""
-    with socket.create_connection(("127.0.0.1", port), 60) as asking:
+    with socket.create_connection(("127.0.0.1", port), WAIT) as asking:
         asking.setsockopt(socket.IPPROTO_TCP, socket.TCP_NODELAY, 1)
         for message in (call(1, 300, 7, 6, 2049), call(4)):
             parts = [message[:30], message[30:]]
@@ -61,7 +63,7 @@ def served(library, room):
         with server:
             answers = [ask_datagrams(port), ask_connection(port, True), ask_connection(port, False)]
             server.stdin.close()
-            status = server.wait(60)
+            status = server.wait(WAIT)
         yield passed(name, (answers, status) == ([True, True, True], 0), (answers, status))
 
 
@@ -77,7 +79,7 @@ def wanting(library, room):
         return
     server, port = started([f"{room}/wanting", "0"])
     with server, socket.socket(socket.AF_INET, socket.SOCK_DGRAM) as asking:
-        asking.settimeout(60)
+        asking.settimeout(WAIT)
         asking.sendto(call(4), ("127.0.0.1", port))
         told = asking.recv(65536)
         server.stdin.close()
@@ -88,7 +90,7 @@ def wanting(library, room):
 ASK_FROM = """import socket, sys
 host, *calls = sys.argv[1:]
 with socket.socket(socket.AF_INET, socket.SOCK_DGRAM) as asking:
-    asking.settimeout(60)
+    asking.settimeout(120)
     asking.bind((host, 0))
     for it in calls:
         asking.sendto(bytes.fromhex(it), (host, 1111))
@@ -99,11 +101,14 @@ with socket.socket(socket.AF_INET, socket.SOCK_DGRAM) as asking:
 def asked_from_afar(room):
     """In a network of its own, at every address: rows are set from 127.0.0.1, and neither set nor unset from another
     address, where the reply is AUTH_TOOWEAK."""
-    inside = """ip link set lo up && ip address add 10.9.8.7/32 dev lo || exit 1
-        { sleep 20 | "$1" 1111 any; } >/dev/null 2>&1 &
-        sleep 1
+    # (it serves while its standard input is held open, and prints its port once it listens)
+    inside = """ip link set lo up && ip address add 10.9.8.7/32 dev lo && mkfifo "$1.given" || exit 1
+        "$1" 1111 any <"$1.given" >"$1.said" 2>/dev/null &
+        exec 9>"$1.given"
+        until [ -s "$1.said" ] || ! kill -0 $!; do sleep 0.05; done
         shift
-        for host in 10.9.8.7 127.0.0.1 10.9.8.7; do "$0" -c "$1" "$host" "$2" "$3" "$4"; done"""
+        for host in 10.9.8.7 127.0.0.1 10.9.8.7; do "$0" -c "$1" "$host" "$2" "$3" "$4"; done
+        kill $!"""
     calls = [call(2, 300, 7, 6, 0), call(1, 300, 7, 6, 2049), call(3, 300, 7, 6, 0)]
     words = ["unshare", "-n", "sh", "-c", inside, sys.executable, f"{room}/registry", ASK_FROM]
     ran = run([*words, *(it.hex() for it in calls)])
@@ -114,7 +119,7 @@ def asked_from_afar(room):
 
 def asked_by_rpcinfo(room):
     """The same at port 111, in a network of its own, asked by rpcinfo."""
-    inside = """ip link set lo up && for turn in 1 2 3 4 5 6 7 8 9 10; do
+    inside = """ip link set lo up && for turn in $(seq 600); do
         sleep 0.2; rpcinfo -p 127.0.0.1 >"$2" 2>&1 && break; done | "$1" 111"""
     listed = f"{room}/listed"
     ran = run(["unshare", "-n", "sh", "-c", inside, "sh", f"{room}/registry", listed])

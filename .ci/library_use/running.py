@@ -3,6 +3,10 @@ import os
 import shutil
 import subprocess
 
+from telling import tell
+
+# The seconds after which a command is ended: under valgrind some take minutes.
+LIMIT = 3600
 ROOT = os.path.dirname(os.path.dirname(os.path.dirname(os.path.realpath(__file__))))
 C = ["cc", "-std=c11", "-O2", "-Wall", "-Wextra", "-Wpedantic", "-Werror"]
 CPP_FLAGS = ["-std=c++17", "-O2", "-Wall", "-Wextra", "-Wpedantic", "-Werror"]
@@ -10,12 +14,11 @@ CPP = ["c++", *CPP_FLAGS]
 
 
 def run(words, **how):
-    return subprocess.run(words, capture_output=True, text=True, timeout=600, check=False, **how)
+    return subprocess.run(words, capture_output=True, text=True, timeout=LIMIT, check=False, **how)
 
 
 def passed(name, is_well, said=""):
-    print(f"{name}: {'as it should be' if is_well else said}")
-    return is_well
+    return tell(name, is_well, said)
 
 
 def compiled(library, source, to, *more):

@@ -326,9 +326,10 @@ static void fill_rows(oncrpc_registry *held) {
 
 /* DUMP of version 3 (RFC 1833 section 2.2.1) of the greatest registry. Each of its own rows has 56 bytes of results: a
  * flag, two numbers, a netid of 8 bytes, an address of 20 and an owner of 16, each with its length. */
+enum { ROW = 4 + 8 + 4 + 64 + 4 + ADDRESS + 4 + 12, OWN_ROW = 4 + 8 + 8 + 20 + 16 };
+static const size_t wanted = 24 + OWN_ROWS * OWN_ROW + (ROWS - OWN_ROWS) * ROW + 4;
+
 static void list_rows(oncrpc_registry *held) {
-    enum { ROW = 4 + 8 + 4 + 64 + 4 + ADDRESS + 4 + 12, OWN_ROW = 4 + 8 + 8 + 20 + 16 };
-    static const size_t wanted = 24 + OWN_ROWS * OWN_ROW + (ROWS - OWN_ROWS) * ROW + 4;
     oncrpc_call call = {7, 0, 100000, 3, 4, 0, 0, {0, 0}, {0, 0}, {0, 0}};
     oncrpc_outcome outcome = {9, 9, 9, 9, 9};
     size_t count = 9;
@@ -362,6 +363,58 @@ static void list_in_process(oncrpc_registry *held) {
             && rows[i].owner.at + 10 <= TEXTS;
     }
     judge(status == ONCRPC_OK && are_right, status);
+}
+
+/* The same DUMP in a record of 65536 bytes, the greatest, over a connection with the greatest bound. */
+static void dump_over_session(oncrpc_registry *held) {
+    static const oncrpc_caller user = {ONCRPC_PEER_LOCAL_USER, 1000, {0}, false, false};
+    oncrpc_call call = {7, 0, 100000, 3, 4, 0, 0, {0, 0}, {0, 0}, {0, 0}};
+    oncrpc_session session = ONCRPC_NONE;
+    oncrpc_outcome outcome = {9, 9, 9, 9, 9};
+    size_t count = 9;
+    uint32_t status = oncrpc_session_start(&session, "local", 5, &user, UINT32_MAX, &outcome);
+    judge(status == ONCRPC_OK && tells(&outcome, 0, 0), status);
+    memset(input, 0, 65540);
+    put_number(input, 0x80010000u);
+    status = oncrpc_call_write(&call, NULL, 0, NULL, 0, NULL, 0, input + 4, 65536, &count);
+    judge(status == ONCRPC_OK && count == 40, status);
+    status = oncrpc_session_feed(&session, held, input, 65000, &outcome);
+    judge(status == ONCRPC_MORE_WANTED && tells(&outcome, 0, 0), status);
+    status = oncrpc_session_feed(&session, held, input + 65000, 1000, &outcome);
+    judge(status == ONCRPC_OK && tells(&outcome, 540, 0), status);
+    status = oncrpc_session_output(&session, buffer, sizeof buffer, &outcome);
+    judge(status == ONCRPC_OK && tells(&outcome, 4 + wanted, 0)
+        && !memcmp(buffer + 4 + wanted - 16, "aaaaaaaaaa\0\0\0\0\0", 16), status);
+    status = oncrpc_session_took(&session, 4 + wanted, &outcome);
+    judge(status == ONCRPC_OK && tells(&outcome, 0, 0), status);
+    oncrpc_session_free(&session);
+}
+
+/* SET of version 3 of the greatest row, and again, by a user whom the kernel names, with 400 bytes of credential and of
+ * verifier. It takes the place of the last row for a while. */
+static void set_by_user(oncrpc_registry *held) {
+    static const oncrpc_caller user = {ONCRPC_PEER_LOCAL_USER, 1000, {0}, false, false};
+    static uint8_t row[8 + 4 + 64 + 4 + ADDRESS + 4], texts[400];
+    oncrpc_call call = {7, 0, 100000, 3, 1, 0, 0, {0, 0}, {0, 0}, {0, 0}};
+    oncrpc_outcome outcome = {9, 9, 9, 9, 9};
+    size_t count = 9;
+    memset(texts, 'a', sizeof texts);
+    memset(row, 'a', sizeof row);
+    put_number(row, ROWS - 1), put_number(row + 4, 1), put_number(row + 8, 64), put_number(row + 76, ADDRESS);
+    put_number(row + sizeof row - 4, 0);
+    uint32_t status = oncrpc_registry_unset(held, ROWS - 1, 1, texts, 64, texts, 10, &outcome);
+    judge(status == ONCRPC_OK, status);
+    status = oncrpc_call_write(&call, texts, 400, texts, 400, row, sizeof row, input, MIB, &count);
+    judge(status == ONCRPC_OK && count == 840 + sizeof row, status);
+    for (int turn = 0; turn < 2; turn++) {
+        status = oncrpc_registry_answer_from(held, &user, "tcp", 3, input, count, buffer, sizeof buffer, &outcome);
+        judge(status == ONCRPC_OK && tells(&outcome, 28, 0)
+            && !memcmp(buffer, "\0\0\0\7\0\0\0\1\0\0\0\0\0\0\0\0\0\0\0\0\0\0\0\0\0\0\0\1", 28), status);
+    }
+    status = oncrpc_registry_unset(held, ROWS - 1, 1, texts, 64, "1000", 4, &outcome);
+    judge(status == ONCRPC_OK, status);
+    status = oncrpc_registry_set(held, ROWS - 1, 1, texts, 64, texts, ADDRESS, texts, 10, &outcome);
+    judge(status == ONCRPC_OK, status);
 }
 
 /* A text of 1 MiB is no address. */
@@ -408,6 +461,8 @@ void check_sizes(void) {
     fill_rows(&registry);
     list_rows(&registry);
     list_in_process(&registry);
+    dump_over_session(&registry);
+    set_by_user(&registry);
     drop_rows(&registry);
     read_long_address();
 }

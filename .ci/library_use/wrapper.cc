@@ -214,6 +214,7 @@ void check_texts() {
 void check_handles() {
     static_assert(!std::is_copy_constructible_v<Declarations> && !std::is_copy_assignable_v<Records>);
     static_assert(std::is_nothrow_move_constructible_v<Registry> && std::is_nothrow_move_assignable_v<Registry>);
+    static_assert(std::is_nothrow_move_constructible_v<Session> && !std::is_copy_constructible_v<Session>);
     Declarations none;
     JUDGE(fails(GOT(none.check("int", {})), Status::no_declarations));
     JUDGE(fails(GOT(none.show("int", {})), Status::no_declarations));
@@ -335,6 +336,44 @@ void check_addresses() {
     JUDGE(fails(GOT(record_header(std::size_t{1} << 31)), Status::bad_limits) && version() == ONCRPC_VERSION_NUMBER);
 }
 
+// A connection in two pieces, and by who calls: a change from afar is AUTH_TOOWEAK, and one of a user is that user's.
+void check_sessions() {
+    const auto set = words({9, 0, 2, 100000, 2, 1, 0, 0, 0, 0, 300, 7, 6, 2049});
+    const Caller afar, user{Peer::local_user, 1000, {}, false}, trusted{Peer::remote, 0, {{10, 9, 8, 7}}, true};
+    auto registry = std::move(*GOT(Registry::start(111, "no peer knows it"sv)));
+    Buffer reply, output(5);
+    JUDGE(*GOT(registry.answer_from(afar, Transport::udp, set, reply)) && reply == words({9, 1, 1, 1, 5}));
+    JUDGE(*GOT(registry.answer_from(user, Transport::udp, set, reply)) && reply == words({9, 1, 0, 0, 0, 0, 1}));
+    JUDGE(*GOT(registry.answer_from(trusted, Transport::tcp, set, reply)) && reply == words({9, 1, 0, 0, 0, 0, 0}));
+    JUDGE((*GOT(registry.rows()))[6].owner == "1000");
+    const auto asked = words({9, 0, 2, 100000, 3, 3, 0, 0, 0, 0, 300, 7, 0, 0, 0});
+    const auto told = words({9, 1, 0, 0, 0, 0, 12, 0x31302E39, 0x2E382E37, 0x2E382E31}); // 10.9.8.7.8.1
+    JUDGE(*GOT(registry.answer_from(trusted, Transport::tcp, asked, reply)) && reply == told);
+    JUDGE(fails(GOT(registry.answer_from({static_cast<Peer>(3), 0, {}, false}, Transport::tcp, set, reply)),
+                Status::no_caller));
+    auto session = std::move(*GOT(Session::start(Transport::local, user, 0)));
+    auto record = words({0x80000038});
+    record.insert(record.end(), set.begin(), set.end());
+    auto fed = GOT(session.feed(registry, Bytes(record).part(0, 30)));
+    JUDGE(fed && fed->status == Status::more_wanted && fed->used == 30);
+    fed = GOT(session.feed(registry, Bytes(record).part(30)));
+    JUDGE(fed && fed->status == Status::ok && fed->used == 30);
+    fed = GOT(session.feed(registry, record));
+    JUDGE(fed && fed->status == Status::output_waits && fed->used == 0);
+    JUDGE(GOT(session.output(output)).has_value() && output == Buffer({128, 0, 0, 28, 0}));
+    JUDGE(*GOT(session.took(4)) == 28 && fails(GOT(session.took(29)), Status::bad_limits));
+    output.resize(64);
+    JUDGE(GOT(session.output(output)).has_value() && output == words({9, 1, 0, 0, 0, 0, 1}));
+    JUDGE(*GOT(session.took(28)) == 0);
+    JUDGE(fails(GOT(session.feed(registry, words({0x80010001}))), Status::refused, Reason::too_long, 60));
+    const auto moved = std::move(session);
+    JUDGE(fails(GOT(session.feed(registry, record)), Status::no_session));
+    JUDGE(fails(GOT(Session().output(output)), Status::no_session) && output.empty());
+    JUDGE(fails(GOT(Session::start(Transport::tcp, {static_cast<Peer>(4), 0, {}, false}, 0)), Status::no_caller));
+    JUDGE(fails(GOT(Session::start(Transport::udp, user, 0)), Status::no_transport));
+    JUDGE(fails(GOT(registry.answer(Transport::local, set, reply)), Status::no_transport));
+}
+
 // Views without bytes, each with NULL.
 void check_nothing() {
     auto declarations = std::move(*GOT(Declarations::read({})));
@@ -385,6 +424,7 @@ unsigned WRONG_OF_THIS() {
     check_replies();
     check_streams();
     check_registry();
+    check_sessions();
     check_addresses();
     check_nothing();
     check_bytes();

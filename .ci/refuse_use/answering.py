@@ -1,12 +1,17 @@
 """A server at a free port of 127.0.0.1, over TCP and UDP at once, and what it does with a call: it answers, or it
 hinders."""
 import contextlib
+import select
 import socket
 import struct
 import threading
 import time
 
 from refuse_use.called import HOST, XID, marked, success, words
+from timing import WAIT, wait_until
+
+# Another address of this host.
+OTHER = "127.0.0.2"
 
 
 class Server:
@@ -14,11 +19,10 @@ class Server:
 
     def __init__(self, answer, port=0, host=HOST):
         self.answer, self.calls, self.moments, self.open = answer, [], [], True
+        self.host, self.last, self.serving = host, None, []
         self.family = socket.AF_INET6 if ":" in host else socket.AF_INET
-        self.stream = socket.create_server((host, port), family=self.family)
+        self.stream, self.datagrams = both(self.family, host, port)
         self.port = self.stream.getsockname()[1]
-        self.datagrams = socket.socket(self.family, socket.SOCK_DGRAM)
-        self.datagrams.bind((host, self.port))
         self.threads = [threading.Thread(target=it, daemon=True) for it in (self.accept, self.receive)]
         for it in self.threads:
             it.start()
@@ -28,25 +32,38 @@ class Server:
 
     def __exit__(self, *_):
         self.open = False
-        # (a datagram ends the wait for one, and with it what holds the port)
-        with contextlib.suppress(OSError), socket.socket(self.family, socket.SOCK_DGRAM) as waking:
-            waking.sendto(b"", self.datagrams.getsockname())
-        with contextlib.suppress(OSError):
-            self.stream.shutdown(socket.SHUT_RDWR)
-        for thread in self.threads:
-            thread.join(5)
+        # (a connection and an empty datagram end the waits for them, behind all that came before and was not read yet;
+        # where more has come than is kept, a datagram can be lost)
+        with contextlib.suppress(OSError), socket.socket(self.family) as waking:
+            waking.bind((self.host, 0))
+            self.last = waking.getsockname()
+            waking.connect(self.stream.getsockname())
+        wait_until(self.is_awake)
+        for thread in (*self.threads, *self.serving):
+            thread.join(WAIT)
         self.stream.close()
         self.datagrams.close()
 
+    def is_awake(self):
+        """Ends the wait for datagrams, and says whether it has ended."""
+        with contextlib.suppress(OSError), socket.socket(self.family, socket.SOCK_DGRAM) as waking:
+            waking.sendto(b"", self.datagrams.getsockname())
+        self.threads[1].join(0.01)
+        return not self.threads[1].is_alive()
+
     def accept(self):
         with contextlib.suppress(OSError):
-            while self.open:
-                made, _ = self.stream.accept()
-                threading.Thread(target=self.serve, args=(made,), daemon=True).start()
+            while True:
+                made, peer = self.stream.accept()
+                if peer == self.last:
+                    made.close()
+                    return
+                self.serving.append(threading.Thread(target=self.serve, args=(made,), daemon=True))
+                self.serving[-1].start()
 
     def serve(self, made):
         with contextlib.suppress(OSError), made:
-            made.settimeout(20)
+            made.settimeout(WAIT)
             message = self.record(made)
             if message is None:
                 return
@@ -69,9 +86,9 @@ class Server:
 
     def receive(self):
         with contextlib.suppress(OSError):
-            while self.open:
+            while True:
                 message, peer = self.datagrams.recvfrom(65536)
-                if not self.open:
+                if not message and not self.open:
                     return
                 self.calls.append(message)
                 self.moments.append(time.monotonic())
@@ -81,6 +98,20 @@ class Server:
         with contextlib.suppress(OSError):
             for datagram in self.answer(self, message, True):
                 self.datagrams.sendto(datagram, peer)
+
+
+def both(family, host, port):
+    """A listener and a socket for datagrams at one port. Where another process has the second, another is taken."""
+    while True:
+        stream, datagrams = socket.create_server((host, port), family=family), socket.socket(family, socket.SOCK_DGRAM)
+        try:
+            datagrams.bind((host, stream.getsockname()[1]))
+            return stream, datagrams
+        except OSError:
+            stream.close()
+            datagrams.close()
+            if port:
+                raise
 
 
 def read(made, count):
@@ -126,11 +157,18 @@ def slow(server, message, datagram):
 
 def greedy(server, message, datagram):
     """More than a reply may have."""
-    yield words(0x80000000 | 16777217) + bytes(64) if not datagram else bytes(60000)
+    yield words(0x80000000 | 16777217) + bytes(64) if not datagram else message[:4] + bytes(59996)
 
 
 def garbage(server, message, datagram):
-    yield b"HTTP/1.1 400 Bad Request\r\n\r\n"
+    """Bytes that are no message, over UDP behind the xid of the call that came."""
+    yield (message[:4] if datagram else b"") + b"HTTP/1.1 400 Bad Request\r\n\r\n"
+
+
+def straying(server, message, datagram):
+    """Datagrams that are no message and begin with no xid of the call: bytes, a reply that is cut, one with flavors of
+    too many bytes."""
+    yield from [b"HTTP/1.1 400 Bad Request\r\n\r\n", success(xid=XID + 1)[:-1], words(XID - 1, 1, 0, 0, 401)]
 
 
 def flooding(server, message, datagram):
@@ -149,7 +187,7 @@ def dripping(server, message, datagram):
 
 
 def gone(server, message, datagram):
-    return [b"nothing"] if datagram else []
+    return [message[:4]] if datagram else []
 
 
 def other(server, message, datagram):
@@ -163,8 +201,8 @@ def late(server, message, datagram):
     if not datagram:
         time.sleep(1)
         return [marked(success())]
-    others = [success(xid=XID + 1), success(xid=0)]
-    return [*others, success()] if len(server.calls) == 3 else others
+    others = [success(xid=XID + 1), success(xid=0), words(XID + 1), b"HTTP/1.1 400 Bad Request"]
+    return [*others, success()] if len(server.calls) >= 3 else others
 
 
 @contextlib.contextmanager
@@ -181,18 +219,36 @@ def full():
     with socket.socket() as listening, contextlib.ExitStack() as waiting:
         listening.bind((HOST, 0))
         listening.listen(0)
-        for _ in range(4):
+        is_taken = True
+        while is_taken:
             made = waiting.enter_context(socket.socket())
             made.setblocking(False)
             made.connect_ex(listening.getsockname())
+            is_taken = select.select([], [made], [], 1)[1]
         yield listening.getsockname()[1]
 
 
 @contextlib.contextmanager
 def nobody():
-    """A port that nobody listens at, over TCP and over UDP."""
-    with socket.socket() as taken, socket.socket(type=socket.SOCK_DGRAM) as free:
+    """A port that nobody listens at, over TCP and over UDP. It is held for TCP, and for datagrams at another address, so
+    that no process is given it meanwhile."""
+    while True:
+        with socket.socket() as taken, unused(taken) as is_held:
+            if is_held:
+                yield taken.getsockname()[1]
+                return
+
+
+@contextlib.contextmanager
+def unused(taken):
+    """Binds a socket to a port that nobody has for datagrams, or says that it is not such a port."""
+    with socket.socket(type=socket.SOCK_DGRAM) as free, socket.socket(type=socket.SOCK_DGRAM) as held:
         taken.bind((HOST, 0))
-        free.bind(taken.getsockname())
+        try:
+            free.bind(taken.getsockname())
+            held.bind((OTHER, taken.getsockname()[1]))
+        except OSError:
+            yield False
+            return
         free.close()
-        yield taken.getsockname()[1]
+        yield True

@@ -27,10 +27,10 @@ SOURCES = ("crates/low/specs/it.antt", "crates/left/proofs/deep/it.antt", "crate
 COUNTED = (*SOURCES, "crates/low/src/lib.rt", "crates/oncrpc/src/main.rt", "crates.txt", "HANDLES")
 LEFT_ALONE = ("crates/other/src/lib.rt", "crates/low/out/src/it.rt", "crates/low/proofs.txt", "crates/low/args/src")
 # The seconds since sources and the program were written, and since a file that is newer was.
-OLD, BUILT, NEW = 1000, 500, 100
+OLD, BUILT, NEW = 100000, 50000, 100
 SUM = "crates/oncrpc/out/oncrpc.sources"
 # What stands as the sum, where it is not the one of these sources; how many seconds it and a source are old; and
-# whether a program that is 500 seconds old is of these sources then.
+# whether a program that is as old as BUILT says is of these sources then.
 SUMS = [
     (None, (NEW, NEW), is_proved),
     ("0\n", (OLD, OLD), is_proved),

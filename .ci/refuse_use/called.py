@@ -9,6 +9,9 @@ import subprocess
 import time
 
 HOST = "127.0.0.1"
+# The seconds after which a run is ended, and those that an answer may take which is to come: less than these, and more
+# than those within which a run is to end (SOON of timing.py).
+LIMIT, LONG = 300, ["--timeout", "200"]
 XID = 0x01020304
 # The program that the rows call.
 DECLARED = b"""struct pair { int first; string second<8>; };
@@ -221,13 +224,17 @@ PINGED = [
 
 
 def run(program, folder, line, given=b"", **variables):
-    """The status and both streams, and how long it took."""
+    """The status and both streams, and how long it took; the status is None where it was ended since it took too long."""
     began = time.monotonic()
-    how = {"cwd": folder, "input": given, "capture_output": True, "env": {**os.environ, **variables}, "timeout": 60}
-    ended = subprocess.run([program, *line], **how)
+    how = {"cwd": folder, "input": given, "capture_output": True, "env": {**os.environ, **variables}, "timeout": LIMIT}
+    try:
+        ended = subprocess.run([program, *line], **how)
+    except subprocess.TimeoutExpired as cut:
+        return (None, cut.stdout, cut.stderr), time.monotonic() - began
     return (ended.returncode, ended.stdout, ended.stderr), time.monotonic() - began
 
 
 def call_words(port, more):
     types = [] if "--types" in more else ["--types", "asked.x"]
-    return ["call", HOST, *more, *types, "--port", str(port), "--xid", str(XID)]
+    seconds = [] if "--timeout" in more else LONG
+    return ["call", HOST, *more, *types, *seconds, "--port", str(port), "--xid", str(XID)]

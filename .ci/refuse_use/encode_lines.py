@@ -10,6 +10,8 @@ from judges.spelled import place_of
 from rows.json_grammar import INVALID, OPEN, VALID, WELL_FORMED
 from rows.json_read import LIMITED, READ, REFUSED
 from rows.json_texts import INDENTED, JSON
+from telling import tell
+from timing import LIMIT
 
 FILE = "file.x"
 # A text of this many bytes is the longest for a value of four bytes: 16 for each of them, and 1048576 more.
@@ -44,13 +46,12 @@ SAID = [
 
 def ended(program, folder, words, given, stack="unlimited"):
     shell = ["sh", "-c", f"ulimit -s {stack}; exec '{program}' {words}"]
-    got = subprocess.run(shell, cwd=folder, input=given, capture_output=True, timeout=60)
+    got = subprocess.run(shell, cwd=folder, input=given, capture_output=True, timeout=LIMIT)
     return got.returncode, got.stdout, got.stderr
 
 
 def row(name, well, got):
-    print(f"oncrpc {name}: {'as it should' if well else got}")
-    return well
+    return tell(f"oncrpc {name}", well, got)
 
 
 def said_rows(program, folder):

@@ -39,11 +39,12 @@ def checkout(folder, name):
     """A checkout with the gate, and stand-ins for its parts and for rt."""
     tree = Tree(folder, name)
     os.makedirs(f"{tree.at}/.ci")
-    for it in ("gate", "run"):
+    for it in ("gate", "run", "telling.py"):
         shutil.copy(f"{ROOT}/.ci/{it}", f"{tree.at}/.ci/{it}")
     for it in PARTS:
         place = "tests/run" if it == "run" else f".ci/{it}"
         tree.write(place, PART % (tree.bin, tree.bin), 0o755)
+    tree.write("build-library", "#!/bin/sh\n", 0o755)
     tree.write("bin/ci", PART % (tree.bin, tree.bin), 0o755)
     tree.write("bin/rt", RT.replace("%%", "%"), 0o755)
     return tree
@@ -56,6 +57,77 @@ def ends(got, status, last):
     return got[0] == status and bool(has_minutes) and bool(lines) and re.fullmatch(last, lines[-1]) is not None
 
 
+# What a part says, its status, and what is printed again of it behind the last part.
+AGAIN = [
+    ("a: well\nFAILED: b: why\nc: well\nFAILED: d\n1 passed, 2 failed\n", 1, "{0}: FAILED: b: why\n{0}: FAILED: d\n"),
+    ("FAILED: b: why\nFAILED: d\n1 passed, 1 failed\n", 1, "{0}: FAILED: b: why\n{0}: FAILED: d\n"),
+    (f"FAILED: {'b' * 2000}\n0 passed, 1 failed\n", 1, "{0}: FAILED: " + "b" * 992 + "\n"),
+    (
+        "FAILED: b\n1 passed, 2 failed\n",
+        1,
+        "{0}: FAILED: b\nFAILED: {0}: 2 failed, and 1 are named. It said:\nFAILED: b\n1 passed, 2 failed\n",
+    ),
+    (
+        "a: NOT REFUSED\nof a: 1 passed, 0 failed\n" + "b: well\n" * 60 + "1 passed, 1 failed\n",
+        1,
+        "FAILED: {0}: 1 failed, and 0 are named. It said:\na: NOT REFUSED\n" + "b: well\n" * 39 + "1 passed, 1 failed\n",
+    ),
+    ("a: well\nTraceback", 1, "FAILED: {0}: 1 failed, and 0 are named. It said:\na: well\nTraceback\n"),
+    (
+        "FAILED: b\nTraceback\n",
+        1,
+        "{0}: FAILED: b\nFAILED: {0}: 1 failed, and 1 are named. It said:\nFAILED: b\nTraceback\n",
+    ),
+    ("2 passed, 0 failed\n", 1, "FAILED: {0}: 1 failed, and 0 are named. It said:\n2 passed, 0 failed\n"),
+]
+
+
+def again_rows(folder):
+    """What failed is printed once more behind the last part, whatever part it is."""
+    tree = checkout(folder, "again")
+    got = tree.run(".ci/run")
+    yield row(".ci/run, nothing failed", b"what failed" not in got[1] and b"FAILED" not in got[1], got)
+    for name in ("documents", "ci", "run"):
+        for at, (said, status, wanted) in enumerate(AGAIN):
+            tree.write(f"bin/{name}.said", said)
+            tree.write(f"bin/{name}.ends", f"{status}\n")
+            got = tree.run(".ci/run")
+            part = {"ci": "rt ci", "run": "tests/run"}.get(name, f".ci/{name}")
+            told = f"what failed:\n{wanted.format(part)}processor minutes:\n"
+            yield row(f".ci/run, what {name} says is told again, {at}", told.encode() in got[1], got)
+        os.remove(f"{tree.bin}/{name}.said")
+        os.remove(f"{tree.bin}/{name}.ends")
+
+
+# Proves the archive ahead, and fails behind its work; and the part that goes on with it.
+AHEAD = """#!/bin/sh
+sleep 1
+echo "$ONCRPC_LANES $PWD" $(cd crates/kept && ls -d proofs/library out) >%s/ahead 2>/dev/null
+exit 1
+"""
+BEHIND = """#!/bin/sh
+echo "ahead: $(cat %s/ahead) $ONCRPC_LANES"
+echo "2 passed, 0 failed"
+"""
+
+
+def ahead_rows(folder):
+    """The archive is proved ahead in a copy, in the lanes of its part, which waits for it; its status says nothing."""
+    tree = checkout(folder, "ahead")
+    tree.write("build-library", AHEAD % tree.bin, 0o755)
+    # (what was built is not copied, but for a folder of sources that has the name of one)
+    for it in ("proofs/library/there", "out/made"):
+        os.makedirs(os.path.dirname(f"{tree.at}/crates/kept/{it}"))
+        tree.write(f"crates/kept/{it}", "")
+    tree.write(".ci/library", BEHIND % tree.bin, 0o755)
+    for words in (".ci/run", ".ci/run --anew"):
+        got = tree.run(words)
+        told = re.search(rb"^ahead: (\S+) (\S+)/checkout proofs/library (\S+)$", got[1], re.M)
+        is_well = told and told[1] == told[3] and told[1].startswith(told[2]) == (words != ".ci/run")
+        is_gone = told and not os.path.exists(told[2])
+        yield row(f"{words}, the archive ahead", is_well and is_gone and ends(got, 0, "15 passed, 0 failed"), got)
+
+
 def gate_rows(folder):
     """Each part counts, by its last line and by its status."""
     tree = checkout(folder, "gate")
@@ -66,8 +138,9 @@ def gate_rows(folder):
     yield row(".ci/run --what", (got[0], got[2]) == (2, b"usage: .ci/run [--anew]\n"), got)
     tree.write("bin/unlike", "")
     got = tree.run(".ci/run")
-    is_first = b"not in the layout of rt fmt" in got[1] and got[1].count(b" passed") == 1
-    yield row(".ci/run, another layout", is_first and ends(got, 1, r"0 passed, \d+ failed"), got)
+    told = re.search(rb"^what failed:\nrt fmt: FAILED: crates/\S+: not in the layout of rt fmt\n", got[1], re.M)
+    is_first = told and got[1].count(b" passed") == 1
+    yield row(".ci/run, another layout", bool(is_first) and ends(got, 1, r"0 passed, \d+ failed"), got)
     for name in (*PARTS, "ci"):
         for at, (said, status, failed) in enumerate(SAID):
             tree = checkout(folder, f"gate-{name}{at}")
@@ -76,3 +149,5 @@ def gate_rows(folder):
             got = tree.run(".ci/run")
             is_first = name != "documents" or b"rt ci" not in got[1]
             yield row(f".ci/run, {name} says {said!r}, {status}", is_first and ends(got, 1, rf"\d+ passed, {failed}"), got)
+    yield from again_rows(folder)
+    yield from ahead_rows(folder)

@@ -9,6 +9,8 @@ sys.path.append(f"{ROOT}/tests")
 
 from judges.json_texts import is_deep_json
 from rows.json_texts import INDENTED, JSON
+from telling import tell
+from timing import LIMIT
 
 # The kinds that no text of declarations names.
 OWN = ("own", "void")
@@ -36,7 +38,7 @@ DEEPEST = [
 
 def ended(program, folder, words, given, stack="unlimited"):
     shell = ["sh", "-c", f"ulimit -s {stack}; exec '{program}' show --json {words}"]
-    got = subprocess.run(shell, cwd=folder, input=given, capture_output=True, timeout=60)
+    got = subprocess.run(shell, cwd=folder, input=given, capture_output=True, timeout=LIMIT)
     return got.returncode, got.stdout, got.stderr
 
 
@@ -53,8 +55,7 @@ def said_rows(program, folder):
     for words, digits, status, output, faults in SAID:
         got = ended(program, folder, f"--name unsigned --hex {words}", digits.encode())
         well = got == (status, output, faults) and (status != 0 or is_json(got[1]))
-        print(f"oncrpc show --json {words}, {digits}: {'as it should' if well else got}")
-        yield well
+        yield tell(f"oncrpc show --json {words}, {digits}", well, got)
 
 
 def value_rows(program, folder):
@@ -68,8 +69,7 @@ def value_rows(program, folder):
             words = f"{layout}--types json.x --name {name} --hex"
             got = ended(program, folder, words, digits.encode())
             well = is_json(got[1]) and got == (0, wanted.encode() + b"\n", b"")
-            print(f"oncrpc show --json {words}, {wanted}: {'as it should' if well else got}")
-            yield well
+            yield tell(f"oncrpc show --json {words}, {wanted!r}", well, got)
 
 
 def deepest_rows(program, folder):
@@ -78,9 +78,8 @@ def deepest_rows(program, folder):
         wanted = front * times + inmost + back * times + "\n"
         got = ended(program, folder, f"--types {text} --name {name}", given, STACK)
         well = got == (0, wanted.encode(), b"") and is_deep_json(got[1])
-        shown = "as it should" if well else (got[0], got[1][-99:], got[2])
-        print(f"oncrpc show --json --types {text}, {count} deep, {STACK} KiB of stack: {shown}")
-        yield well
+        name = f"oncrpc show --json --types {text}, {count} deep, {STACK} KiB of stack"
+        yield tell(name, well, (got[0], got[1][-99:], got[2]))
 
 
 def long_rows(program, folder):
@@ -96,9 +95,7 @@ def long_rows(program, folder):
     ):
         got = ended(program, folder, words, given)
         well = got == (0, wanted.encode(), b"") and is_json(got[1])
-        shown = "as it should" if well else (got[0], got[1][:99], got[2])
-        print(f"oncrpc show --json {words}, {len(given)} bytes: {shown}")
-        yield well
+        yield tell(f"oncrpc show --json {words}, {len(given)} bytes", well, (got[0], got[1][:99], got[2]))
 
 
 def json_rows(program, folder):

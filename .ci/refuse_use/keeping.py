@@ -3,6 +3,7 @@
 Expected bytes are those of RFC 5531 sections 9 and 11 and of RFC 1833 section 3. A client is a connection over loopback.
 """
 import contextlib
+import fcntl
 import os
 import re
 import resource
@@ -11,11 +12,17 @@ import socket
 import struct
 import subprocess
 import sys
+import termios
 import threading
 import time
 
+sys.dont_write_bytecode = True
+sys.path.insert(0, os.path.dirname(os.path.dirname(os.path.realpath(__file__))))
+
+from telling import tell
+from timing import SOON, WAIT, in_time
+
 HOST = "127.0.0.1"
-WAIT = 20
 FIRST = re.compile(rb"listening on 127\.0\.0\.1 (\d+)\n")
 
 
@@ -39,7 +46,7 @@ def no_answer(xid):
     return struct.pack(">6I", xid, 1, 0, 0, 0, 5)
 
 
-def called(*words, room=0, **variables):
+def called(*words, port=0, room=0, **variables):
     """The program's words, its environment, and what is done before it begins: a signal may be ignored here."""
 
     def begin():
@@ -48,7 +55,7 @@ def called(*words, room=0, **variables):
             resource.setrlimit(resource.RLIMIT_NOFILE, (room, room))
 
     how = {"env": {**os.environ, **variables}, "stdout": subprocess.PIPE, "stderr": subprocess.PIPE}
-    return ["serve", "--port", "0", *words], {**how, "preexec_fn": begin}
+    return ["serve", "--port", str(port), *words], {**how, "preexec_fn": begin}
 
 
 class Kept:
@@ -88,16 +95,24 @@ class Kept:
         self.process.returncode = os.waitstatus_to_exitcode(status)
         return used.ru_maxrss * 1024
 
+    def used(self):
+        """Ends it, and tells the seconds of processor time that it took."""
+        self.process.terminate()
+        _, status, used = os.wait4(self.process.pid, 0)
+        self.process.returncode = os.waitstatus_to_exitcode(status)
+        return used.ru_utime + used.ru_stime
+
     def client(self):
         return socket.create_connection((HOST, self.port), WAIT)
 
     def asked(self, message, seconds=WAIT):
-        """What a datagram is answered."""
-        with socket.socket(type=socket.SOCK_DGRAM) as asking:
+        """What a datagram is answered; nothing where the time is up."""
+        with contextlib.suppress(OSError), socket.socket(type=socket.SOCK_DGRAM) as asking:
             asking.settimeout(seconds)
             asking.connect((HOST, self.port))
             asking.send(message)
             return asking.recv(65536)
+        return b""
 
 
 def read(made, count, seconds=WAIT):
@@ -142,6 +157,20 @@ def trickle(made, stop):
                     return
 
 
+def call_unread(made):
+    """Makes a call, and leaves the reply unread."""
+    made.sendall(marked(call(1)))
+    made.recv(1, socket.MSG_PEEK)
+
+
+def call_greedily(made):
+    """Asks for the list of rows until no more is taken, and reads none."""
+    made.setblocking(False)
+    with contextlib.suppress(BlockingIOError):
+        while True:
+            made.send(marked(call(2, 4)) * 100)
+
+
 @contextlib.contextmanager
 def hindering(kept):
     """A client that says nothing, one that trickles, one that stops inside a record, and one that takes no replies."""
@@ -150,10 +179,7 @@ def hindering(kept):
     trickler = threading.Thread(target=trickle, args=(slow, stop))
     trickler.start()
     half.sendall(b"\x80\x01\x00\x00" + bytes(60000))
-    greedy.setblocking(False)
-    with contextlib.suppress(BlockingIOError):
-        while True:
-            greedy.send(marked(call(2, 4)) * 100)
+    call_greedily(greedy)
     try:
         yield silent, slow, half, greedy
     finally:
@@ -166,7 +192,7 @@ def hindering(kept):
 def at_once(program):
     """Each of 300 clients that come at once gets its 16 replies, in their order, beside those that hinder; and so does
     who asks by a datagram."""
-    with Kept(program) as kept, hindering(kept), contextlib.ExitStack() as opened:
+    with Kept(program, "--idle", "3600") as kept, hindering(kept), contextlib.ExitStack() as opened:
         clients = [opened.enter_context(kept.client()) for _ in range(300)]
         for number, made in enumerate(clients):
             made.sendall(b"".join(marked(call(number * 16 + it)) for it in range(16)))
@@ -194,7 +220,7 @@ def lines(program):
         (marked(call(1)) + b"\x80\x00\x00\x28abc", "Truncated at 51"),
         (b"", "0 records, 0 replies"),
     ]
-    with Kept(program, "--verbose", "--idle", "1") as kept:
+    with Kept(program, "--verbose", "--idle", "3600") as kept:
         wanted = []
         for number, (bytes_sent, line) in enumerate(sent, 1):
             with kept.client() as made:
@@ -202,21 +228,53 @@ def lines(program):
                 made.sendall(bytes_sent)
                 made.shutdown(socket.SHUT_WR)
                 read(made, 1 << 20)
-        with kept.client() as made:
-            wanted.append(f"connection {len(sent) + 1} from {HOST}:{made.getsockname()[1]}: Idle\n")
-            idle = is_closed(made)
         # A connection is closed before its line is written.
         told = kept.lines(len(wanted))
         said = kept.end(signal.SIGINT)
-    well = idle and told == "".join(wanted).encode() and said == (-signal.SIGINT, b"", b"")
-    yield "the line of each connection, and SIGINT", well, (idle, told, said, wanted)
+    well = told == "".join(wanted).encode() and said == (-signal.SIGINT, b"", b"")
+    yield "the line of each connection, and SIGINT", well, (told, said, wanted)
+    with Kept(program, "--verbose", "--idle", "1") as kept, kept.client() as made:
+        wanted = f"connection 1 from {HOST}:{made.getsockname()[1]}: Idle\n"
+        is_idle, told = is_closed(made), kept.lines(1)
+    yield "the line of one that says nothing", is_idle and told == wanted.encode(), (is_idle, told, wanted)
+
+
+def reset(program):
+    """Clients that reset their connection, the second while replies wait: each ends alone, and has its line."""
+    for begin, fault in ((call_unread, "Read"), (call_greedily, "Write")):
+        yield f"a connection that is reset, {fault}", *in_time(lambda: is_reset(program, begin, fault))
+
+
+def is_reset(program, begin, fault):
+    """Whether the line of a connection that is reset tells this fault, and another connection is answered still."""
+    with Kept(program, "--verbose", "--idle", "3600") as kept, kept.client() as other:
+        with kept.client() as made:
+            wanted = f"connection 2 from {HOST}:{made.getsockname()[1]}: {fault}\n"
+            begin(made)
+            wait_for_quiet(made)
+            # Closed so it is reset.
+            made.setsockopt(socket.SOL_SOCKET, socket.SO_LINGER, struct.pack("ii", 1, 0))
+        told = kept.lines(1)
+        return told == wanted.encode() and is_answered(other, 2), (told, wanted)
+
+
+def wait_for_quiet(made):
+    """Waits until for a second nothing has come over a connection, and none of what was sent was taken."""
+    before, until, end = None, 0, time.monotonic() + WAIT
+    while time.monotonic() < min(until, end) or before is None:
+        waiting = [fcntl.ioctl(made, it, bytes(4)) for it in (termios.FIONREAD, termios.TIOCOUTQ)]
+        before, until = waiting, until if waiting == before else time.monotonic() + 1
+        time.sleep(0.05)
 
 
 def held(kept, clients, name):
     """Of clients that all call some are answered, and the others once as many have gone."""
     for number, made in enumerate(clients):
         made.sendall(marked(call(number)))
-    first = [made for number, made in enumerate(clients) if read(made, 28, 0.2) == marked(replied(number))]
+    # (the first is answered, however late; of the others those are, or are not yet, for which the time is short)
+    seconds = [WAIT, *[0.2] * len(clients)]
+    got = [read(made, 28, seconds[number]) == marked(replied(number)) for number, made in enumerate(clients)]
+    first = [made for made, is_answer in zip(clients, got) if is_answer]
     said = kept.asked(call(7))
     later = [made for made in clients if made not in first]
     for made in first:
@@ -234,22 +292,37 @@ def full(program):
             yield from held(kept, clients, name)
 
 
+def resting(program):
+    """A client that says nothing for three seconds takes next to no processor time."""
+    with Kept(program) as kept, kept.client() as silent:
+        well = is_answered(silent, 1)
+        time.sleep(3)
+        used = kept.used()
+    yield "a silent client takes no processor time", well and used < 0.3, (well, used)
+
+
 def idle(program):
     """Those that hinder go after the time; who calls stays."""
-    with Kept(program, "--idle", "1") as kept, kept.client() as caller, hindering(kept) as hinderers:
-        began, well = time.monotonic(), []
-        while time.monotonic() < began + 4:
-            well.append(is_answered(caller, len(well)))
-            time.sleep(0.3)
-        silent, slow, half, _ = hinderers
-        gone = [is_closed(made, 1) for made in (silent, slow, half)]
-        yield "who calls stays, the others go", all(well) and all(gone), (well, gone)
+    yield "who calls stays, the others go", *in_time(lambda: is_left_alone(program))
+
+
+def is_left_alone(program, seconds=3):
+    """Whether who calls all the time is answered for twice the time after which idle connections go, and these go."""
+    well, gone = [], []
+    with contextlib.suppress(OSError), Kept(program, "--idle", str(seconds)) as kept:
+        with kept.client() as caller, hindering(kept) as (silent, slow, half, _):
+            began = time.monotonic()
+            while time.monotonic() < began + 2 * seconds + 1:
+                well.append(is_answered(caller, len(well)))
+                time.sleep(0.3)
+            gone = [is_closed(made, SOON) for made in (silent, slow, half)]
+    return all(well) and gone == [True] * 3, (well, gone)
 
 
 def bounded(program):
     """The same by a process of its own, since a program begins with the memory of the one that starts it."""
     words = [sys.executable, "-B", os.path.realpath(__file__), program]
-    said = subprocess.run(words, capture_output=True, text=True, timeout=120, check=False)
+    said = subprocess.run(words, capture_output=True, text=True, check=False)
     yield "32 clients that take no replies", said.stdout == "True\n", (said.stdout, said.stderr)
 
 
@@ -261,17 +334,50 @@ def holds_little(program):
             sets = read(setting, 32 * 1018)
         greedy = [opened.enter_context(kept.client()) for _ in range(32)]
         for made in greedy:
-            made.setblocking(False)
-            with contextlib.suppress(BlockingIOError):
-                while True:
-                    made.send(marked(call(2, 4)) * 100)
+            call_greedily(made)
         with kept.client() as caller:
             began = time.monotonic()
             well = all(is_answered(caller, it) for it in range(100))
             took = time.monotonic() - began
         most = kept.peak()
         # Beside the program and its rows each holds what it reads and writes, and a list of 1024 rows of 20 bytes.
-        return sets == marked(replied(1, 1)) * 1018 and well and took < 5 and most < 16 << 20
+        return sets == marked(replied(1, 1)) * 1018 and well and took < 2 * SOON and most < 16 << 20
+
+
+def ended(program, *words, **more):
+    """The status, standard output and standard error of a registry that is to end by itself."""
+    words, how = called(*words, **more)
+    with subprocess.Popen([program, *words], **how) as it:
+        late = threading.Timer(WAIT, it.kill)
+        late.start()
+        printed, faults = it.communicate()
+        late.cancel()
+    return it.returncode, printed, faults
+
+
+def unheard(program, heap):
+    """What could not be had, or failed, and why: by the line, behind which the system's own word stands."""
+    with socket.socket() as tcp, socket.socket(type=socket.SOCK_DGRAM) as udp:
+        tcp.bind((HOST, 0))
+        tcp.listen()
+        udp.bind((HOST, 0))
+        (_, first), (_, second) = tcp.getsockname(), udp.getsockname()
+        rows = [
+            ("a port that is taken", {"port": first}, f"127.0.0.1 {first} over tcp: address in use"),
+            ("one that is taken over UDP", {"port": second}, f"127.0.0.1 {second} over udp: address in use"),
+            ("no descriptor for TCP", {"room": 4}, "127.0.0.1 0 over tcp: error 24"),
+            ("none for UDP", {"room": 5}, r"127.0.0.1 [1-9]\d* over udp: error 24"),
+        ]
+        if heap:
+            rows.append(("no random bytes", {"LD_PRELOAD": heap, "REFUSE_RANDOM": "1"}, "random bytes: [a-z0-9 ]+"))
+        for name, more, wanted in rows:
+            said = ended(program, **more)
+            well = said[:2] == (3, b"") and re.fullmatch(f"socket fault: {wanted}\n", said[2].decode())
+            yield name, well, said
+    if heap:
+        status, printed, faults = ended(program, LD_PRELOAD=heap, REFUSE_WAIT="2")
+        well = (status, faults) == (3, b"socket fault: waiting: error 5\n") and FIRST.fullmatch(printed)
+        yield "a wait that fails", well, (status, printed, faults)
 
 
 def growths(program, heap):
@@ -281,9 +387,9 @@ def growths(program, heap):
         for refused in (str(number), f"{number}.."):
             with Kept(program, "--verbose", LD_PRELOAD=heap, REFUSE_GROWTH=refused) as kept:
                 if not kept.port:
-                    ended = kept.process.wait(WAIT), kept.process.stderr.read()
-                    if ended not in ((3, b"socket fault\n"), (4, b"out of memory\n")):
-                        wrong.append((refused, ended))
+                    said = kept.process.wait(WAIT), kept.process.stderr.read()
+                    if said != (4, b"out of memory\n"):
+                        wrong.append((refused, said))
                     continue
                 listened += 1
                 got = [answered(kept) for _ in range(4)]
@@ -312,11 +418,10 @@ def answered(kept):
 
 def kept_rows(program, heap):
     """The rows, each whether it is as it should be."""
-    some = [at_once, lines, full, idle, bounded]
+    some = [at_once, lines, reset, full, resting, idle, bounded, lambda it: unheard(it, heap)]
     for rows in [*some, lambda it: growths(it, heap)] if heap else some:
         for name, is_well, told in rows(program):
-            print(f"oncrpc serve, {name}: {'as it should' if is_well else told}", flush=True)
-            yield bool(is_well)
+            yield tell(f"oncrpc serve, {name}", is_well, told)
 
 
 if __name__ == "__main__":

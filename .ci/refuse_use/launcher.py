@@ -7,7 +7,9 @@ import signal
 import sys
 import time
 
-from refuse_use.standins import CRATES, Tree
+from refuse_use.standins import CRATES, UNTIL_UNREAD, Tree
+from telling import tell
+from timing import LIMIT, wait_until
 
 DO = rb"`./oncrpc prove` proves and builds it\n"
 UNPROVED = rb"oncrpc: not proved yet: each call compiles the unproved program, about two minutes of a processor; "
@@ -44,8 +46,7 @@ NEEDS = {
 
 
 def row(what, well, *found):
-    print(f"{what}: {'as it should' if well else found}")
-    return well
+    return tell(what, well, found)
 
 
 def is_answer(got, status, output, faults, calls):
@@ -76,6 +77,10 @@ def unproved(folder):
     got = tree.run("./oncrpc check --types none.x", b"in")
     told = output(b"unproved", b"check", b"none", b"in")
     yield row("./oncrpc check --types none.x, which is not there", is_answer(got, 5, told, faults, 1), got)
+    for words, text in (("--replies deep/it.x", b"struct"), ("--replies=deep/it.x", b"struct"), ("--replies none", b"none")):
+        got = tree.run(f"./oncrpc messages {words}", b"in")
+        told = output(b"unproved", b"messages", text, b"in")
+        yield row(f"./oncrpc messages {words}", is_answer(got, 5, told, faults, 1), got)
     got = tree.run("./oncrpc")
     yield row("./oncrpc", is_answer(got, 5, output(b"unproved", b""), faults, 1), got)
     for name in (b"info", b"call", b"ping", b"serve"):
@@ -107,7 +112,7 @@ def streams(folder):
         got = tree.run("sh redirected")
         told = b"" if faults is None else UNPROVED + faults
         yield row(f"./oncrpc show {redirected}", is_answer(got, status, printed, told, 1), got)
-    tree.write("piped", "{ sleep 1; ./oncrpc show; echo $? >status; } | true\n")
+    tree.write("piped", f"{{ {UNTIL_UNREAD}; ./oncrpc show; echo $? >status; }} | true\n")
     got = tree.run("sh piped")
     well = tree.read("status") == "3\n" and is_answer(got, 0, b"", UNPROVED + b"write fault\n", 1)
     yield row("./oncrpc show | true", well, got)
@@ -309,27 +314,30 @@ def interrupted(folder):
         told = len(re.findall(rb"oncrpc: \d of 6, \w+" + KEPT, got[2]))
         well = (got[0], told, WAITS in got[2]) == (0, 5, False) and tree.read(tree.made) == tree.read("bin/proved")
         yield row("./oncrpc prove goes on", well, got)
-    tree = Tree(folder, "killed", RT_JOBS="1", STAND_SLEEP="30", TMPDIR=f"{folder}/killed/room")
+    tree = Tree(folder, "killed", RT_JOBS="1", STAND_SLEEP="300", TMPDIR=f"{folder}/killed/room")
     os.mkdir(f"{tree.at}/room")
     for number, _ in SIGNALS[:2]:
         tree.write("bin/calls", "")
-        got = tree.stop("./oncrpc show", ("bin/calls", "try"), number)
+        # (words that read no input: the toolchain is not asked before the whole input is there)
+        got = tree.stop("./oncrpc show --help", ("bin/calls", "try"), number)
         well = got[:2] == (3, b"") and re.fullmatch(UNPROVED + STOPPED % b"", got[2])
-        yield row(f"./oncrpc show, {number.name}", bool(well) and not os.listdir(f"{tree.at}/room"), got)
+        well = well and "try" in tree.read("bin/calls")
+        yield row(f"./oncrpc show --help, {number.name}", bool(well) and not os.listdir(f"{tree.at}/room"), got)
 
 
-# A Python that takes a second to start.
+# A Python that does not start before the signal was sent.
 STARTING = """#!{python}
 import os, sys, time
 with open(os.path.dirname(__file__) + "/python", "w") as it:
     it.write("begun")
-time.sleep(1)
+while not os.path.exists(os.path.dirname(__file__) + "/signalled"):
+    time.sleep(0.05)
 os.execv("{python}", ["{python}", *sys.argv[1:]])
 """
-# Sums that take their time.
+# Sums that take until then.
 SUMMING = """#!/bin/sh
 echo begun >"${0%/*}/sums"
-sleep 0.3
+until [ -e "${0%/*}/signalled" ]; do sleep 0.05; done
 exec """
 
 
@@ -356,14 +364,13 @@ def two_at_once(folder):
     tree = Tree(folder, "two", RT_JOBS="2")
     tree.write("bin/waits", "low later\n")
     first = tree.begin("./oncrpc prove")
-    while "of short" not in tree.read("crates/oncrpc/out/build.log"):
-        time.sleep(0.05)
+    wait_until(lambda: "of short" in tree.read("crates/oncrpc/out/build.log"))
     second = tree.begin("./oncrpc prove")
     told = second.stderr.readline() + second.stderr.readline()
     yield row("./oncrpc prove, the log of the other", "of short" in tree.read("crates/oncrpc/out/build.log"), told)
     with open(f"{tree.at}/bin/order", "a", encoding="utf-8") as order:
         order.write("begin later x\n")
-    got = [(it.communicate(timeout=60)[1], it.returncode) for it in (first, second)]
+    got = [(it.communicate(timeout=LIMIT)[1], it.returncode) for it in (first, second)]
     kept = len(re.findall(rb"oncrpc: \d of 6, \w+" + KEPT, got[1][0]))
     well = re.fullmatch(BEGUN + WAITS, told) and [it[1] for it in got] == [0, 0] and kept == 6
     well = well and tree.read(tree.made) == tree.read("bin/proved")

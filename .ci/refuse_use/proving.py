@@ -10,6 +10,7 @@ import time
 
 from refuse_use.launcher import BEGUN, FROM, KEPT, NOT_BUILT, PAIRS, TOOK, WAITS, lists_of, row
 from refuse_use.standins import RT, Tree
+from timing import LIMIT, wait_until
 
 NOT_PROVED = rb"oncrpc: %s is not proved\n"
 KILLED = rb"oncrpc: not built: the proof was killed\n"
@@ -28,25 +29,21 @@ def hooked(tree, call, commands):
     tree.write("bin/rt", f"#!/bin/sh\n{test}{RT.partition(chr(10))[2]}", 0o755)
 
 
-def wait_until(is_so):
-    """Whether something comes to be within a minute."""
-    for _ in range(1200):
-        if is_so():
-            return True
-        time.sleep(0.05)
-    return False
-
-
 def is_free(tree):
     """Whether no check is at work, nor what one has begun: each holds the lock of the lanes."""
     with open(f"{tree.at}/out/lanes/lock", encoding="utf-8") as lock:
-        for _ in range(600):
-            with contextlib.suppress(BlockingIOError):
-                fcntl.flock(lock, fcntl.LOCK_EX | fcntl.LOCK_NB)
-                return True
-            time.sleep(0.05)
+        if wait_until(lambda: is_locked(lock)):
+            return True
     # (the check's own group)
     os.killpg(int(tree.read("bin/pid")), signal.SIGKILL)
+    return False
+
+
+def is_locked(file):
+    """Whether a file could be locked at once."""
+    with contextlib.suppress(BlockingIOError):
+        fcntl.flock(file, fcntl.LOCK_EX | fcntl.LOCK_NB)
+        return True
     return False
 
 
@@ -92,13 +89,13 @@ def beginner_killed(folder):
     first = tree.begin(PROVE)
     begun = wait_until(lambda: tree.read("bin/asked"))
     first.kill()
-    first.communicate(timeout=60)
+    first.communicate(timeout=LIMIT)
     second = tree.begin("./oncrpc prove")
     told = second.stderr.readline() + second.stderr.readline()
     time.sleep(0.3)
     asked = tree.read("bin/asked")
     tree.write("bin/go", "")
-    faults = second.communicate(timeout=60)[1]
+    faults = second.communicate(timeout=LIMIT)[1]
     order = [it.split()[:2] for it in tree.read("bin/order").splitlines()]
     well = begun and re.fullmatch(BEGUN + WAITS, told) and asked == "asked\n"
     well = well and order[:3] == [["begin", "low"], ["end", "low"], ["begin", "low"]]
@@ -270,9 +267,9 @@ def changed_and_back(folder):
     waits = second.stderr.readline() + second.stderr.readline()
     tree.write(low, text)
     tree.write("bin/go", "")
-    ended = [first.communicate(timeout=60)[1]]
+    ended = [first.communicate(timeout=LIMIT)[1]]
     tree.write("bin/own", own)
-    ended.append(second.communicate(timeout=60)[1])
+    ended.append(second.communicate(timeout=LIMIT)[1])
     told = [it.endswith(b"oncrpc: not built: the sources changed meanwhile\n") for it in ended]
     well = is_begun and re.fullmatch(BEGUN + WAITS, waits) and all(told) and second.returncode == 3
     yield row("./oncrpc prove, sources change as it waits, and back", bool(well) and tree.read(low) == own, waits, ended)

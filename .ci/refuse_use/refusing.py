@@ -5,7 +5,7 @@ import re
 import shutil
 
 from refuse_use.answering import Server, replying
-from refuse_use.called import ASKED, HOST, PINGED, UNASKED, XID, call_words, run, success, words
+from refuse_use.called import ASKED, HOST, LONG, PINGED, UNASKED, XID, call_words, run, success, words
 
 ROOT = os.path.dirname(os.path.dirname(os.path.dirname(os.path.realpath(__file__))))
 
@@ -96,8 +96,8 @@ def refused_pings(program, folder, heap):
         lines.append((["info", HOST], success(words(0), xid=1), 0))
         for words_of_it, reply, status in lines:
             with Server(replying(reply)) as server:
-                port = ["--port", str(server.port)] if "ping" in words_of_it else [str(server.port), "--timeout", "5"]
-                line = [*words_of_it, *port, *over]
+                port = ["--port", str(server.port)] if "ping" in words_of_it else [str(server.port)]
+                line = [*words_of_it, *port, *LONG, *over]
                 got, counts, bad = swept(program, folder, heap, line, begin=later)
             name = f"{' '.join([*words_of_it, *over])}, {counts} growths, reads and writes refused"
             yield name, got[0] == status and not bad, (got, bad[:3])

@@ -15,8 +15,10 @@ sys.dont_write_bytecode = True
 sys.path.insert(0, os.path.dirname(os.path.dirname(os.path.realpath(__file__))))
 
 from refuse_use.answering import Server, endless, garbage, silent
-from refuse_use.called import DECLARED, HOST, PROGRAM, marked, opaque, run, success, words
+from refuse_use.called import DECLARED, HOST, LONG, PROGRAM, marked, opaque, run, success, words
 from refuse_use.refusing import first_growth, swept
+from telling import tell
+from timing import SOON, in_time
 
 REGISTRY = 100000
 # What the registry's versions 4, 3 and 2 answer to the question, None for PROG_MISMATCH; which of them are asked, and
@@ -50,6 +52,8 @@ ANSWERS_OVER_6 = [
     ((None, None, words(111)), [4, 3], 1, b"", NO_ROW),
 ]
 CALL = ["call", HOST, "ASKED.FIRST.NIL", "--types", "asked.x"]
+# The call of the program behind its xid.
+CALLED = words(0, 2, PROGRAM, 1, 0, 0, 0, 0, 0)
 # Two names and their addresses, of which the system has 127.0.0.1 before the other of IPv4.
 SECOND = "127.0.0.2"
 NAMES = f"::1 first\n{HOST} first\n::1 second\n{SECOND} second\n{HOST} second\n"
@@ -85,11 +89,16 @@ def losing(answers):
 
 def lost_rows(program, folder):
     """Over UDP the registry is asked again, too."""
+    yield "a registry whose first datagram is lost", *in_time(lambda: lost(program, folder))
+
+
+def lost(program, folder):
+    """Whether the question is put again after a second, and the program called then."""
     with Server(losing((AT, None, None)), 111) as server:
         got, took = run(program, folder, [*CALL, "--udp"])
     well = got == (0, b"{}\n", b"") and 0.9 <= took < 3
     well = well and [it[4:] for it in server.calls[:2]] == [question(4, True)] * 2 and len(server.calls) == 3
-    yield "a registry whose first datagram is lost", well, (got, took, [it.hex() for it in server.calls])
+    return well, (got, took, [it.hex() for it in server.calls])
 
 
 def placed_rows(program, folder):
@@ -97,59 +106,69 @@ def placed_rows(program, folder):
     registry, and over TCP where nobody has the port."""
     for name, host in (("first", HOST), ("second", SECOND)):
         for more in ([], ["--port", "111"], ["--udp"], ["--port", "111", "--udp"])[: 4 if host == HOST else 3]:
-            with Server(registry((AT, None, None)), 111, host) as server:
-                got, took = run(program, folder, ["call", name, *CALL[2:], *more])
-            well = got == (0, b"{}\n", b"") and took < 3 and len(server.calls) == (1 if "--port" in more else 2)
-            yield f"a name whose {name} address is called {' '.join(more)}", well, (got, took)
+            well, told = in_time(lambda: placed(program, folder, host, ["call", name, *CALL[2:], *more]))
+            yield f"a name whose {name} address is called {' '.join(more)}", well, told
+
+
+def placed(program, folder, host, line):
+    """Whether a call comes to this address at once."""
+    with Server(registry((AT, None, None)), 111, host) as server:
+        got, took = run(program, folder, line)
+    well = got == (0, b"{}\n", b"") and took < 3 and len(server.calls) == (1 if "--port" in line else 2)
+    return well, (got, took)
 
 
 def answered_rows(program, folder):
     """What the registry is asked, and what is printed of what it answers."""
     for answers, versions, status, output, faults in ANSWERS:
         for over in ([], ["--udp"]):
-            with Server(registry(answers), 111) as server:
-                got, _ = run(program, folder, [*CALL, *over])
-            asked = [question(version, over) for version in versions]
-            called = [words(0, 2, PROGRAM, 1, 0, 0, 0, 0, 0)] * (status == 0)
-            well = got == (status, output, faults) and [it[4:] for it in server.calls] == asked + called
-            yield f"a registry that answers {answers} {' '.join(over)}", well, (got, [it.hex() for it in server.calls])
+            asked = [question(version, over) for version in versions] + [CALLED] * (status == 0)
+            wanted = (status, output, faults), asked
+            well, told = in_time(lambda: answered(program, folder, [*CALL, *over], answers, wanted))
+            yield f"a registry that answers {answers} {' '.join(over)}", well, told
+
+
+def answered(program, folder, line, answers, wanted, host=HOST):
+    """Whether with a registry of these answers a call gives what is wanted, and these calls are made, each once."""
+    with Server(registry(answers), 111, host) as server:
+        got, _ = run(program, folder, line)
+    return (got, [it[4:] for it in server.calls]) == wanted, (got, [it.hex() for it in server.calls])
 
 
 def answered_over_6(program, folder):
     """The same over IPv6."""
     for answers, versions, status, output, faults in ANSWERS_OVER_6:
         for over in ([], ["--udp"]):
-            with Server(registry(answers), 111, SIX) as server:
-                got, _ = run(program, folder, ["call", SIX, *CALL[2:], *over])
-            asked = [question(version, over, b"6") for version in versions]
-            called = [words(0, 2, PROGRAM, 1, 0, 0, 0, 0, 0)] * (status == 0)
-            well = got == (status, output, faults) and [it[4:] for it in server.calls] == asked + called
-            name = f"a registry at {SIX} that answers {answers} {' '.join(over)}"
-            yield name, well, (got, [it.hex() for it in server.calls])
+            asked = [question(version, over, b"6") for version in versions] + [CALLED] * (status == 0)
+            line, wanted = ["call", SIX, *CALL[2:], *over], ((status, output, faults), asked)
+            well, told = in_time(lambda: answered(program, folder, line, answers, wanted, SIX))
+            yield f"a registry at {SIX} that answers {answers} {' '.join(over)}", well, told
 
 
 def mapped_rows(program, folder):
     """An address of IPv4 that is written within one of IPv6 is of IPv4 (RFC 4291 section 2.5.5.2)."""
     for over in ([], ["--udp"]):
-        with Server(registry((AT, None, None)), 111) as server:
-            got, _ = run(program, folder, ["call", f"::ffff:{HOST}", *CALL[2:], *over])
-        asked = [question(4, over), words(0, 2, PROGRAM, 1, 0, 0, 0, 0, 0)]
-        well = got == (0, b"{}\n", b"") and [it[4:] for it in server.calls] == asked
-        yield f"a registry at ::ffff:{HOST} {' '.join(over)}", well, (got, [it.hex() for it in server.calls])
+        line, wanted = ["call", f"::ffff:{HOST}", *CALL[2:], *over], ((0, b"{}\n", b""), [question(4, over), CALLED])
+        well, told = in_time(lambda: answered(program, folder, line, (AT, None, None), wanted))
+        yield f"a registry at ::ffff:{HOST} {' '.join(over)}", well, told
 
 
 def pinged_rows(program, folder):
     """A program that is pinged without a version is looked up by version 0."""
-    answers = (opaque(b"127.0.0.1.0.111"), None, None)
     for name, version in (("536870913", 0), ("536870913.7", 7)):
         for over in ([], ["--udp"]):
-            with Server(registry(answers), 111) as server:
-                got, _ = run(program, folder, ["ping", HOST, name, *over])
-            line = rb"536870913 %d answered in \d+ microseconds\n" % version
-            sent = [it[12:24] + it[40:48] for it in server.calls]
-            wanted = [words(REGISTRY, 4, 3, PROGRAM, version), words(PROGRAM, version, 0)]
-            well = re.fullmatch(line, got[1]) and sent == wanted
-            yield f"ping {name} {' '.join(over)} by the registry", well, (got, sent)
+            well, told = in_time(lambda: pinged(program, folder, ["ping", HOST, name, *over], version))
+            yield f"ping {name} {' '.join(over)} by the registry", well, told
+
+
+def pinged(program, folder, line, version):
+    """Whether the registry is asked for this version of the program, and that is pinged."""
+    with Server(registry((AT, None, None)), 111) as server:
+        got, _ = run(program, folder, line)
+    printed = rb"536870913 %d answered in \d+ microseconds\n" % version
+    sent = [it[12:24] + it[40:48] for it in server.calls]
+    wanted = [words(REGISTRY, 4, 3, PROGRAM, version), words(PROGRAM, version, 0)]
+    return re.fullmatch(printed, got[1]) and sent == wanted, (got, sent)
 
 
 def hindered_rows(program, folder):
@@ -161,13 +180,18 @@ def hindered_rows(program, folder):
         (garbage, [], 1, NO_ROW),
         (garbage, ["--udp"], 1, NO_ROW),
     ):
-        with Server(answer, 111):
-            got, took = run(program, folder, [*CALL, "--timeout", "2", *over])
-        well = got == (status, b"", faults) and took < 4
-        yield f"a registry that is {answer.__name__} {' '.join(over)}", well, (got, took)
+        well, told = in_time(lambda: hindered(program, folder, answer, over, (status, b"", faults)))
+        yield f"a registry that is {answer.__name__} {' '.join(over)}", well, told
     for over in ([], ["--udp"]):
-        got, took = run(program, folder, [*CALL, *over])
-        yield f"no registry {' '.join(over)}", got == (3, b"", b"socket fault\n") and took < 3, (got, took)
+        got, took = run(program, folder, [*CALL, *LONG, *over])
+        yield f"no registry {' '.join(over)}", got == (3, b"", b"socket fault\n") and took < SOON, (got, took)
+
+
+def hindered(program, folder, answer, over, wanted):
+    """Whether a registry that answers so is waited for two seconds in all, and not for each of its versions."""
+    with Server(answer, 111):
+        got, took = run(program, folder, [*CALL, "--timeout", "2", *over])
+    return got == wanted and took < 4, (got, took)
 
 
 def refused_rows(program, folder, heap):
@@ -175,7 +199,7 @@ def refused_rows(program, folder, heap):
     for over in ([], ["--udp"]) if heap else ():
         with Server(registry((None, opaque(b""), words(111))), 111):
             later = first_growth(program, folder, heap)
-            got, counts, bad = swept(program, folder, heap, [*CALL, *over], begin=later)
+            got, counts, bad = swept(program, folder, heap, [*CALL, *LONG, *over], begin=later)
         name = f"by the registry {' '.join(over)}, {counts} growths, reads and writes refused"
         yield name, got[0] == 0 and not bad, (got, bad[:3])
 
@@ -193,10 +217,13 @@ def registered_rows(program, heap):
             print("a network of its own is not there: the rows of a registry at port 111 are skipped")
             return
         words_of_it = [sys.executable, os.path.realpath(__file__), program, heap or ""]
-        said = subprocess.run([*own, *words_of_it], capture_output=True, text=True, timeout=1800, check=False)
+        said = subprocess.run([*own, *words_of_it], capture_output=True, text=True, check=False)
     print(said.stdout + said.stderr, end="")
     told = re.search(r"^(\d+) well of (\d+)$", said.stdout, re.M)
-    well, count = (int(told[1]), int(told[2])) if told else (0, 1)
+    if not told:
+        yield tell("calls by a registry at port 111", False, said)
+        return
+    well, count = int(told[1]), int(told[2])
     for number in range(count):
         yield number < well
 
@@ -210,8 +237,7 @@ def main(program, heap):
         told_rows = (answered_rows, answered_over_6, mapped_rows, lost_rows, placed_rows, pinged_rows)
         for rows in (*told_rows, hindered_rows, swept_rows):
             for name, is_well, told in rows(program, folder):
-                print(f"oncrpc call, {name}: {'as it should' if is_well else told}", flush=True)
-                well.append(bool(is_well))
+                well.append(tell(f"oncrpc call, {name}", is_well, told))
     print(f"{well.count(True)} well of {len(well)}")
 
 

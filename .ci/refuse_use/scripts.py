@@ -6,7 +6,8 @@ import re
 import shutil
 
 from refuse_use.launcher import DO, UNPROVED, is_answer, output, row
-from refuse_use.standins import PROGRAM, ROOT, Tree
+from refuse_use.standins import PROGRAM, ROOT, UNTIL_UNREAD, Tree
+from timing import in_time
 
 NOT_PROVED = b"oncrpc: not proved yet; " + DO
 VERSION = "crates/oncrpc_words/src/help.rt"
@@ -79,7 +80,7 @@ def measuring(folder):
         got = tree.run(f"bench/{name} --help")
         well = (got[0], got[2]) == (0, b"") and b"usage: bench/%s " % name.encode() in got[1]
         yield row(f"bench/{name} --help", well, got)
-    tree.write("piped", "{ sleep 1; bench/shapes --list; } | true\n")
+    tree.write("piped", f"{{ {UNTIL_UNREAD}; bench/shapes --list; }} | true\n")
     got = tree.run("sh piped")
     yield row("bench/shapes --list | true", is_answer(got, 0, b"", b"", 0), got)
 
@@ -115,14 +116,19 @@ def version(folder):
 
 def signs_of_life(folder):
     """While the toolchain is at work, a line says so each half minute, which is here a part of a second."""
-    tree = Tree(folder, "signs", STAND_SLEEP="1.5")
+    tree = Tree(folder, "signs", STAND_SLEEP="3")
     text = tree.read("scripts/unproved")
     yield row("a sign of life each 30 seconds", text.count("\nEACH = 30\n") == 1, text)
     tree.write("scripts/unproved", text.replace("\nEACH = 30\n", "\nEACH = 0.4\n"))
+    yield row("./oncrpc show, slow", *in_time(lambda: tells_signs(tree)))
+
+
+def tells_signs(tree):
+    """Whether an answer after some seconds has two signs of life or more before it."""
     got = tree.run("./oncrpc show")
     sign = rb"(oncrpc: compiling and running the unproved program, \d+ seconds so far\n){2,}"
     faults = UNPROVED + sign + b"unproved fault\n"
-    yield row("./oncrpc show, slow", is_answer(got, 5, output(b"unproved", b"show"), faults, 1), got)
+    return is_answer(got, 5, output(b"unproved", b"show"), faults, 1), got
 
 
 # With what status the program ends, for each input that cannot be read.

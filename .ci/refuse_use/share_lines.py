@@ -4,6 +4,8 @@ import os
 import subprocess
 
 from refuse_use.recorded import RECORDED, SERVED
+from telling import tell
+from timing import LIMIT
 
 ROOT = os.path.dirname(os.path.dirname(os.path.dirname(os.path.realpath(__file__))))
 # A text, and those of .ci/declarations that declare the same procedures, as their RFCs have them.
@@ -37,7 +39,7 @@ RPCGENS = [
 def declared(program, path, *words):
     """The procedures that a text declares, and the kind and the counts of bytes of each argument and result."""
     asked = [program, "types", *words, "--types", path]
-    ended = subprocess.run(asked, capture_output=True, text=True, timeout=60, check=False)
+    ended = subprocess.run(asked, capture_output=True, text=True, timeout=LIMIT, check=False)
     lines = [line.split() for line in ended.stdout.splitlines()]
     named = {line[2]: [] for line in lines if line[0] == "procedure"}
     return {**named, **{line[1]: line[3:] for line in lines if line[0] in ("argument", "result")}}
@@ -53,8 +55,8 @@ def rpcgens_rows(program):
         theirs = declared(program, f"/usr/include/{path}", "--dialect", "rpcgen")
         wanted = {it: theirs[it] for it in theirs if it.startswith(f"{NUMBERS[name]}.") and it not in others}
         other = {it: (found.get(it), wanted[it]) for it in wanted if found.get(it) != wanted[it]}
-        print(f"share/oncrpc/{name}.x beside {path}: {len(wanted)} lines, {other or 'all the same'}")
-        yield len(wanted) > 5 and not other
+        well = len(wanted) > 5 and not other
+        yield tell(f"share/oncrpc/{name}.x beside {path}, {len(wanted)} lines", well, other, "all the same")
 
 
 def share_rows(program):
@@ -63,23 +65,21 @@ def share_rows(program):
     for name, number in NUMBERS.items():
         found = declared(program, f"{ROOT}/share/oncrpc/{name}.x")
         well = f"{number}." in " ".join(found) and all(it.startswith(f"{number}.") for it in found)
-        print(f"share/oncrpc/{name}.x: {'as it should be' if well else found}")
-        yield well
+        yield tell(f"share/oncrpc/{name}.x", well, found)
     for name, texts in SAME:
         found = declared(program, f"{ROOT}/share/oncrpc/{name}.x")
         wanted = {}
         for it in texts:
             wanted.update(declared(program, f"{ROOT}/.ci/declarations/{it}.x"))
         other = {it: (found.get(it), wanted[it]) for it in wanted if found.get(it) != wanted[it]}
-        print(f"share/oncrpc/{name}.x beside {texts[0]}: {len(wanted)} lines, {other or 'all the same'}")
-        yield len(wanted) > 5 and not other
+        well = len(wanted) > 5 and not other
+        yield tell(f"share/oncrpc/{name}.x beside {texts[0]}, {len(wanted)} lines", well, other, "all the same")
     for (name, version, procedure), arguments, results in RECORDED + SERVED:
         for part, digits in (("1", arguments), ("result", results)):
             if digits:
                 at = f"{NUMBERS[name]}.{version}.{procedure}.{part}"
                 words = ["check", "--hex", "--types", f"{ROOT}/share/oncrpc/{name}.x", "--name", at]
-                how = {"input": digits.encode(), "capture_output": True, "timeout": 60, "check": False}
+                how = {"input": digits.encode(), "capture_output": True, "timeout": LIMIT, "check": False}
                 said = subprocess.run([program, *words], **how).stdout
                 well = said == b"ok %d\n" % (len(digits) // 2)
-                print(f"{at} as recorded: {'as it should be' if well else said}")
-                yield well
+                yield tell(f"{at} as recorded", well, said)

@@ -4,8 +4,9 @@ import re
 import signal
 
 from refuse_use.launcher import BEGUN, BUILT, FROM, PROOF_STOPPED, lists_of, row
-from refuse_use.proving import PROVE, WAITING, hooked, is_free, wait_until
+from refuse_use.proving import PROVE, WAITING, hooked, is_free
 from refuse_use.standins import Tree
+from timing import LIMIT, WAIT, wait_until
 
 BEGINS = FROM % (6, 1)
 # Checks that hang, that a signal does not end, that take their time to end, and that have begun another command.
@@ -42,7 +43,8 @@ def checks(folder):
         text = tree.read("scripts/running.py")
         if commands == DEAF:
             yield row("a check has 10 seconds to end", text.count("\nPATIENCE = 10\n") == 1, text)
-            tree.write("scripts/running.py", text.replace("\nPATIENCE = 10\n", "\nPATIENCE = 0.5\n"))
+        patience = 0.5 if commands == DEAF else WAIT
+        tree.write("scripts/running.py", text.replace("\nPATIENCE = 10\n", f"\nPATIENCE = {patience}\n"))
         hooked(tree, "lib low", commands)
         got = tree.stop("./oncrpc prove", AT_WORK)
         ended = tree.read("bin/ended") == ("well\n" if commands == SLOW else "")
@@ -60,7 +62,7 @@ def ignored(folder):
     for number in (signal.SIGHUP, signal.SIGINT, signal.SIGTERM):
         os.killpg(begun.pid, number)
     tree.write("bin/go", "")
-    told = begun.communicate(timeout=60)[1]
+    told = begun.communicate(timeout=LIMIT)[1]
     well = asked and begun.returncode == 0 and re.search(BUILT + rb"\Z", told)
     yield row("./oncrpc prove, signals that are ignored", bool(well), told)
 

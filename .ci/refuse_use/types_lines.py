@@ -7,9 +7,12 @@ import subprocess
 import sys
 
 sys.dont_write_bytecode = True
-sys.path.insert(0, os.path.dirname(os.path.realpath(__file__)))
+HERE = os.path.dirname(os.path.realpath(__file__))
+sys.path[:0] = [HERE, os.path.dirname(HERE)]
 
 from second_reading import Reading
+from telling import tell
+from timing import LIMIT
 
 ROOT = os.path.dirname(os.path.dirname(os.path.dirname(os.path.realpath(__file__))))
 # Texts, their lines and their JSON, worked by hand: the numbers on both sides of 2^53 and of 2^64, each kind, a default
@@ -76,7 +79,7 @@ WORKED = [
 
 
 def printed(program, folder, words):
-    got = subprocess.run([program, "types", *words], cwd=folder, capture_output=True, timeout=60)
+    got = subprocess.run([program, "types", *words], cwd=folder, capture_output=True, timeout=LIMIT)
     return got.returncode, got.stdout.decode(), got.stderr.decode()
 
 
@@ -86,8 +89,7 @@ def worked_rows(program, folder):
             it.write(text)
         got = [printed(program, folder, ["--types", "worked.x", *more]) for more in ([], ["--json"])]
         well = got == [(0, lines, ""), (0, told, "")]
-        print(f"oncrpc types of {text[:40]!r}..: {'as it should' if well else got}")
-        yield well
+        yield tell(f"oncrpc types of {text[:40]!r}..", well, got)
 
 
 def at_size():
@@ -123,8 +125,7 @@ def size_rows(program, folder):
     for more, wanted in zip(([], ["--json"]), whole):
         got = printed(program, folder, ["--types", "size_of.x", *more])
         well = got == (0, wanted, "")
-        print(f"oncrpc types {' '.join(more)} of {len(text)} bytes: {'as it should' if well else (got[0], got[2])}")
-        yield well
+        yield tell(f"oncrpc types {' '.join(more)} of {len(text)} bytes", well, (got[0], got[2]))
 
 
 def members_once(pairs):
@@ -155,8 +156,7 @@ def second_rows(program, folder, recipe):
             with open(path, encoding="utf-8") as it:
                 text = it.read()
         well = is_read_alike(program, folder, words, Reading(text))
-        print(f"oncrpc types of {name}, read a second time: {'the same' if well else 'another listing'}")
-        yield well
+        yield tell(f"oncrpc types of {name}, read a second time", well, "another listing", "the same")
 
 
 def bodies(files):
@@ -180,9 +180,8 @@ def installed_rows(program, folder, installed):
         there = [file if "/" in file else f"{folder}/{file}" for file in files]
         lost = [name for name in bodies(there) if name not in listed]
         well = (status, faults, told[0], lost) == (0, "", 0, []) and lines == "".join(lines_of(json.loads(told[1])))
-        shown = f"{len(lines.splitlines())} lines" if well else (status, faults, lost, lines[-99:])
-        print(f"oncrpc types of {names}: {shown}")
-        yield well
+        found = status, faults, lost, lines[-99:]
+        yield tell(f"oncrpc types of {names}", well, found, f"{len(lines.splitlines())} lines")
 
 
 def lines_of(told):

@@ -12,6 +12,7 @@ enum { ROUNDS = 200, THREADS = 3 };
 static const char text[] = "struct file { string name<255>; bool open; };";
 static const uint8_t file[12] = "\0\0\0\3abc\0\0\0\0\1";
 static const uint8_t record[7] = "\200\0\0\3xyz";
+static const oncrpc_caller nobody = {ONCRPC_PEER_REMOTE, 0, {0}, false, false};
 
 /* What the threads share, under the lock. */
 static struct {
@@ -19,9 +20,10 @@ static struct {
     oncrpc_declarations declarations;
     oncrpc_registry registry;
     oncrpc_records records;
+    oncrpc_session session;
     uint32_t rows;
     size_t wrong;
-} shared = {PTHREAD_MUTEX_INITIALIZER, ONCRPC_NONE, ONCRPC_NONE, ONCRPC_NONE, 0, 0};
+} shared = {PTHREAD_MUTEX_INITIALIZER, ONCRPC_NONE, ONCRPC_NONE, ONCRPC_NONE, ONCRPC_NONE, 0, 0};
 
 static void want(int is_right) {
     shared.wrong += !is_right;
@@ -33,6 +35,7 @@ static void *make(void *nothing) {
     want(oncrpc_declarations_read(text, sizeof text - 1, &shared.declarations, &outcome) == ONCRPC_OK);
     want(oncrpc_registry_start(&shared.registry, 111, "no peer knows it", 16, &outcome) == ONCRPC_OK);
     want(oncrpc_records_start(&shared.records, 65536, &outcome) == ONCRPC_OK);
+    want(oncrpc_session_start(&shared.session, "tcp", 3, &nobody, 65536, &outcome) == ONCRPC_OK);
     pthread_mutex_unlock(&shared.lock);
     return nothing;
 }
@@ -48,6 +51,8 @@ static void use(void) {
     want(oncrpc_records_feed(&shared.records, record, sizeof record, &outcome) == ONCRPC_OK);
     want(oncrpc_records_take(&shared.records, taken, sizeof taken, &outcome) == ONCRPC_OK);
     want(!memcmp(taken, "xyz", 3));
+    want(oncrpc_session_feed(&shared.session, &shared.registry, record, sizeof record, &outcome) == ONCRPC_OK);
+    want(oncrpc_session_output(&shared.session, taken, sizeof taken, &outcome) == ONCRPC_OK && !outcome.at);
 }
 
 static void *use_again(void *nothing) {
@@ -67,6 +72,7 @@ static void *give_back(void *nothing) {
     oncrpc_declarations_free(&shared.declarations);
     oncrpc_registry_free(&shared.registry);
     oncrpc_records_free(&shared.records);
+    oncrpc_session_free(&shared.session);
     pthread_mutex_unlock(&shared.lock);
     return nothing;
 }

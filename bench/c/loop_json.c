@@ -1,4 +1,4 @@
-/* The nearest to our tool_json with rpcgen, libtirpc and json-c: JSON of one value, COUNT times.
+/* The nearest to our tool_bench json with rpcgen, libtirpc and json-c: JSON of one value, COUNT times.
  * usage: loop_json nums|list bytes|value|read|back COUNT
  * Standard input is the bytes of the value (RFC 4506), or its JSON. bytes: they are decoded and written as JSON; value:
  * the value is, which was decoded before; read: the JSON is read as a value; back: and encoded. A line is printed: how

@@ -12,7 +12,6 @@ OURS = f"{ROOT}/crates/oncrpc/out/oncrpc"
 # (./build-library leaves it there)
 ARCHIVE = f"{ROOT}/library/liboncrpc.a"
 CALLS_OF_OURS = f"{ROOT}/crates/tool_bench/out/tool_bench"
-CALLS_OF_JSON = f"{ROOT}/crates/tool_json/out/tool_json"
 
 
 def refuse(why):

@@ -3,7 +3,7 @@ import os
 import struct
 import sys
 
-from .common import CALLS_OF_JSON, ROOT, instructions, per_value, processor, resident, wall
+from .common import CALLS_OF_OURS, ROOT, instructions, per_value, processor, resident, wall
 
 # The works, and what ours is of theirs: `bytes` is known to be a value's before, where theirs decodes it each time.
 WORKS = {
@@ -47,7 +47,7 @@ def compare(base, folder, kind, name, made):
     """Each work on a value, ours beside theirs, which have to come to the same."""
     for work, what in WORKS.items():
         theirs_given, ours_given = given(folder, kind, made[work in ("read", "back")])
-        ours, theirs = [CALLS_OF_JSON, work, kind], [f"{base}/loop_json", kind, work]
+        ours, theirs = [CALLS_OF_OURS, "json", work, kind], [f"{base}/loop_json", kind, work]
         told = [wall([*words, "1"], path, 1)[1] for words, path in ((ours, ours_given), (theirs, theirs_given))]
         if told[0] != told[1]:
             sys.exit(f"json, {name}, {work}: {told[0]} beside {told[1]}")
@@ -68,7 +68,7 @@ def grown(folder):
         for mega in (1, 4, 16):
             wire, text = numbers(mega * MEBIBYTE * 93 // 1000)
             _, ours_given = given(folder, "grown", text if work == "read" else wire)
-            counts = [instructions([CALLS_OF_JSON, work, "nums", times], ours_given) for times in ("1", "2")]
+            counts = [instructions([CALLS_OF_OURS, "json", work, "nums", times], ours_given) for times in ("1", "2")]
             each = (counts[1] - counts[0]) / len(text)
             first = first or each
             print(
@@ -106,9 +106,9 @@ def hostile(folder):
     above = []
     for name, (kind, text) in hostile_texts().items():
         _, ours_given = given(folder, "hostile", text)
-        taken = processor([CALLS_OF_JSON, "read", kind, "1"], given=ours_given)
+        taken = processor([CALLS_OF_OURS, "json", "read", kind, "1"], given=ours_given)
         above += [name] if taken > MOST else []
-        held = resident([CALLS_OF_JSON, "read", kind, "1"], ours_given) / len(text)
+        held = resident([CALLS_OF_OURS, "json", "read", kind, "1"], ours_given) / len(text)
         print(
             f"json, {name}, {len(text) / MEBIBYTE:.2f} MiB: {taken:.3f} seconds of processor time, {held:.0f} bytes a"
             " byte resident",

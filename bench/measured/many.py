@@ -9,8 +9,14 @@ import time
 
 from .common import OURS
 from .registries import CUT, FULL, HOST, NULL, NULL_REPLY, PORTS
-from .registries import connect_once, ended, fill, load, resident, rows_of, started
+from .registries import connect_once, ended, fill, resident, rows_of, side_by_side, started
 
+# What one client asks over a connection, as those of a registry with a count.
+WORKS = [
+    ("setunset", 16, {"ours": 100000, "rpcbind": 40000}),
+    ("setunset", 1012, {"ours": 50000, "rpcbind": 20000}),
+    ("getaddr", FULL, {"ours": 400000, "rpcbind": 20000}),
+]
 # A call of DUMP of version 2, as a record.
 DUMP = struct.pack(">11I", 0x80000028, 1, 0, 2, 100000, 2, 4, 0, 0, 0, 0)
 
@@ -45,24 +51,8 @@ def at_once(base):
             f" the slowest in a hundred {slow:,.0f} and {slow_other:,.0f} microseconds",
             flush=True,
         )
-    looked_up(base)
+    side_by_side(base, "serve without a count", WORKS)
     ended(both.values())
-
-
-def looked_up(base):
-    """GETADDR of both registries with 1024 rows, over one connection, of ours without a count."""
-    own = {name: rows_of(name) for name in PORTS}
-    for name in PORTS:
-        fill(base, name, own[name], FULL, 0)
-    best = dict.fromkeys(PORTS, 0.0)
-    for _ in range(3):
-        for name, count in (("ours", 400000), ("rpcbind", 20000)):
-            best[name] = max(best[name], load(base, name, "getaddr", count, FULL - own[name]))
-    print(
-        f"serve without a count, getaddr, {FULL} rows: {best['ours']:,.0f} calls a second beside"
-        f" {best['rpcbind']:,.0f}: {best['ours'] / best['rpcbind']:.1f} times as many",
-        flush=True,
-    )
 
 
 def silent(count=10000):

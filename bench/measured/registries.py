@@ -65,6 +65,24 @@ def fill(base, name, own, to, old):
         load(base, name, "fill", to - max(old, own), max(old - own, 0))
 
 
+def side_by_side(base, how, works):
+    """Calls a second of both registries over one connection, run in turn, the best of three each."""
+    rows, old = {name: rows_of(name) for name in PORTS}, 0
+    for work, to, counts in works:
+        for name in PORTS:
+            fill(base, name, rows[name], to, old)
+        old = to
+        best = {name: 0.0 for name in PORTS}
+        for _ in range(3):
+            for name in PORTS:
+                best[name] = max(best[name], load(base, name, work, counts[name], to - rows[name]))
+        print(
+            f"{how}, {work}, {to} rows: {best['ours']:,.0f} calls a second beside {best['rpcbind']:,.0f}:"
+            f" {best['ours'] / best['rpcbind']:.1f} times as many",
+            flush=True,
+        )
+
+
 def connect_once(port, given, address=HOST):
     """What a client at an address gets that sends this and shuts down; a hostile one may be cut off."""
     got = b""

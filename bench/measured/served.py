@@ -7,7 +7,17 @@ import sys
 from .common import CALLS_OF_OURS, OURS, ROOT, instructions
 from .many import many
 from .registries import CUT, FULL, HELD, NULL, NULL_REPLY, PORTS
-from .registries import connect_once, ended, fill, load, resident, rows_of, started
+from .registries import connect_once, ended, load, resident, side_by_side, started
+
+# What one client asks over a connection: the work, how many rows are there then, and how many calls of each registry.
+WORKS = [
+    ("null", 16, {"ours": 400000, "rpcbind": 50000}),
+    ("setunset", 16, {"ours": 100000, "rpcbind": 40000}),
+    ("setunset", 1012, {"ours": 50000, "rpcbind": 20000}),
+    ("dump", 1012, {"ours": 2000, "rpcbind": 1000}),
+    ("getaddr", FULL, {"ours": 400000, "rpcbind": 20000}),
+    ("getother", FULL, {"ours": 100000, "rpcbind": 20000}),
+]
 
 
 def needs():
@@ -38,32 +48,6 @@ def serve(base, folder):
     inside = 'ip link set lo up && mount -t tmpfs none /run && mkdir -p /run/rpcbind && exec "$@"'
     own = ["unshare", "-n", "-m", "--propagation", "private", "sh", "-c", inside, "own"]
     subprocess.run([*own, sys.executable, f"{ROOT}/bench/run", "inside", base], check=True)
-
-
-def side_by_side(base):
-    """Calls a second of both registries, run in turn, the best of three each."""
-    rows = {name: rows_of(name) for name in PORTS}
-    old = 0
-    for work, to, counts in [
-        ("null", 16, {"ours": 400000, "rpcbind": 50000}),
-        ("setunset", 16, {"ours": 100000, "rpcbind": 40000}),
-        ("setunset", 1012, {"ours": 50000, "rpcbind": 20000}),
-        ("dump", 1012, {"ours": 2000, "rpcbind": 1000}),
-        ("getaddr", FULL, {"ours": 400000, "rpcbind": 20000}),
-        ("getother", FULL, {"ours": 100000, "rpcbind": 20000}),
-    ]:
-        for name in PORTS:
-            fill(base, name, rows[name], to, old)
-        old = to
-        best = {name: 0.0 for name in PORTS}
-        for _ in range(3):
-            for name in PORTS:
-                best[name] = max(best[name], load(base, name, work, counts[name], to - rows[name]))
-        print(
-            f"serve, {work}, {to} rows: {best['ours']:,.0f} calls a second beside {best['rpcbind']:,.0f}:"
-            f" {best['ours'] / best['rpcbind']:.1f} times as many",
-            flush=True,
-        )
 
 
 def by_datagrams(base):
@@ -116,7 +100,7 @@ def inside(base):
     """The part of `serve` that runs in a network of its own."""
     ours = started([OURS, "serve", "--port", str(PORTS["ours"]), "--count", "1000000"], PORTS["ours"])
     theirs = started(["rpcbind", "-f", "-i"], PORTS["rpcbind"])
-    side_by_side(base)
+    side_by_side(base, "serve", WORKS)
     ended([ours, theirs])
     by_datagrams(base)
     hostile_connections()

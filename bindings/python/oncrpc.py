@@ -26,8 +26,8 @@ Values are these:
 `case` is a word of the language, so that no arm has it for a name.
 
 What the library answers in place of a result is an OncrpcError. Bytes may be given as any object with a buffer. What
-is not `bytes` is copied first, since nothing may change it while the library reads it. Declarations, Records and
-Registry hold memory of the library until they are closed, by `close`, at the end of `with`, or with the object. They
+is not `bytes` is copied first, since nothing may change it while the library reads it. Declarations, Records, Registry
+and Session hold memory of the library until they are closed, by `close`, at the end of `with`, or with the object. They
 stay on the thread that made them, as files of sqlite3 do: another one is told so by a RuntimeError.
 """
 
@@ -49,11 +49,13 @@ __all__ = [
     "AuthSys",
     "AddressError",
     "Call",
+    "Caller",
     "Checked",
     "Count",
     "DeclarationError",
     "Declarations",
     "Decoded",
+    "Fed",
     "Field",
     "Flag",
     "Item",
@@ -78,6 +80,7 @@ __all__ = [
     "OncrpcError",
     "Part",
     "Parts",
+    "Peer",
     "Reason",
     "Records",
     "RefusedError",
@@ -85,6 +88,7 @@ __all__ = [
     "Reply",
     "Role",
     "Row",
+    "Session",
     "Shown",
     "State",
     "Status",
@@ -144,6 +148,9 @@ class Status(enum.IntEnum):
     NO_NUMBER = 28
     NO_MEMBER = 29
     BAD_JSON = 30
+    NO_SESSION = 31
+    OUTPUT_WAITS = 32
+    NO_CALLER = 33
 
 
 class Reason(enum.IntEnum):
@@ -232,6 +239,14 @@ class XdrType(enum.IntEnum):
     UNION = 13
     OPTIONAL = 14
     VOID = 15
+
+
+class Peer(enum.IntEnum):
+    """Who sends a record: someone at another host, someone at this one, or a user of it, as the kernel says."""
+
+    REMOTE = 0
+    LOCAL = 1
+    LOCAL_USER = 2
 
 
 class State(enum.IntEnum):
@@ -494,6 +509,13 @@ class Count(NamedTuple):
 Item = Union[int, Data, Flag, Count]
 
 
+class Fed(NamedTuple):
+    """What a session did with a piece: Status.OK, MORE_WANTED or OUTPUT_WAITS, and the place behind what was taken."""
+
+    status: Status
+    at: int
+
+
 class Row(NamedTuple):
     """A row of a registry."""
 
@@ -573,6 +595,20 @@ class AuthSys:
     uid: int = 0
     gid: int = 0
     gids: Tuple[int, ...] = ()
+
+
+@dataclass(frozen=True)
+class Caller:
+    """What the program that has the socket knows of a call beside its bytes.
+
+    `uid` is that of Peer.LOCAL_USER. `host` is the four bytes of the address to which the call came, where that is
+    known. `trusts_remote` says whether SET and UNSET of Peer.REMOTE are taken.
+    """
+
+    peer: Peer = Peer.REMOTE
+    uid: int = 0
+    host: Optional[bytes] = None
+    trusts_remote: bool = False
 
 
 # ---- oncrpc.h
@@ -656,6 +692,14 @@ class _RowsOutcome(ctypes.Structure):
     _fields_ = [("rows", ctypes.c_size_t), ("bytes", ctypes.c_size_t)]
 
 
+class _Caller(ctypes.Structure):
+    _fields_ = _numbers("peer", "uid") + [
+        ("host", ctypes.c_uint8 * 4),
+        ("has_host", ctypes.c_bool),
+        ("trusts_remote", ctypes.c_bool),
+    ]
+
+
 class _AuthSys(ctypes.Structure):
     _fields_ = _numbers("stamp", "uid", "gid", "gid_count") + [
         ("gids", ctypes.c_uint32 * 16),
@@ -681,6 +725,8 @@ _STRUCTS = {
     "oncrpc_registry_row": _Row,
     "oncrpc_rows_outcome": _RowsOutcome,
     "oncrpc_records": _Handle,
+    "oncrpc_caller": _Caller,
+    "oncrpc_session": _Handle,
 }
 
 #: A part as it lies in an array of them: at, count, name_at, name_count, depth, kind, xdr_type, role.
@@ -725,6 +771,7 @@ _FUNCTIONS: Dict[str, List[Any]] = {
     "oncrpc_auth_sys_write": [ctypes.POINTER(_AuthSys), *_LENT, *_LENT, _COUNT],
     "oncrpc_registry_start": [_HELD, ctypes.c_uint16, *_LENT, _OUTCOME],
     "oncrpc_registry_answer": [_HELD, *_LENT, *_LENT, *_LENT, _OUTCOME],
+    "oncrpc_registry_answer_from": [_HELD, ctypes.POINTER(_Caller), *_LENT, *_LENT, *_LENT, _OUTCOME],
     "oncrpc_registry_reply": [_HELD, *_LENT, _OUTCOME],
     "oncrpc_registry_set": [_HELD, _U32, _U32, *_LENT, *_LENT, *_LENT, _OUTCOME],
     "oncrpc_registry_unset": [_HELD, _U32, _U32, *_LENT, *_LENT, _OUTCOME],
@@ -737,6 +784,11 @@ _FUNCTIONS: Dict[str, List[Any]] = {
     "oncrpc_records_take": [_HELD, *_LENT, _OUTCOME],
     "oncrpc_records_end": [_HELD, _OUTCOME],
     "oncrpc_records_free": [_HELD],
+    "oncrpc_session_start": [_HELD, *_LENT, ctypes.POINTER(_Caller), _U32, _OUTCOME],
+    "oncrpc_session_feed": [_HELD, _HELD, *_LENT, _OUTCOME],
+    "oncrpc_session_output": [_HELD, *_LENT, _OUTCOME],
+    "oncrpc_session_took": [_HELD, ctypes.c_size_t, _OUTCOME],
+    "oncrpc_session_free": [_HELD],
     "oncrpc_record_header": [ctypes.c_size_t, ctypes.c_bool, ctypes.c_void_p],
     "oncrpc_version": [],
 }
@@ -764,6 +816,14 @@ def _limits(limits: Iterable[int]) -> Tuple[int, int]:
     if not (0 <= depth < 1 << 32 and 0 <= count < 1 << 32):
         _fail(Status.BAD_LIMITS)
     return depth, count
+
+
+def _caller(caller: Caller) -> _Caller:
+    host = _lent(caller.host) if caller.host is not None else bytes(4)
+    if len(host) != 4:
+        raise ValueError(f"a host of {len(host)} bytes")
+    peer, uid = _u(32, caller.peer, "peer"), _u(32, caller.uid, "uid")
+    return _Caller(peer, uid, (ctypes.c_uint8 * 4)(*host), caller.host is not None, caller.trusts_remote)
 
 
 def _limit(limit: int) -> int:
@@ -839,6 +899,13 @@ class Library:
         depend on it. No answer does.
         """
         return Registry(self, port, os.urandom(16) if seed is None else seed)
+
+    def session(self, over: str = "tcp", caller: Caller = Caller(), bound: int = 65536) -> Session:
+        """The session of a connection of this caller to a registry, over `tcp` or `local`, before its first byte.
+
+        While more than `bound` bytes of its output wait, it takes nothing. Raises NoMemoryError.
+        """
+        return Session(self, over, caller, bound)
 
     def records(self, limit: int = MOST_RECORD) -> Records:
         """A reader before the first byte of a stream whose records may have `limit` bytes.
@@ -1000,13 +1067,17 @@ class _Owner:
             _fail(status, outcome)
         self._handle = held
 
-    def _call(self, name: str, *given: Any) -> int:
-        """Calls a function on the handle, where that is open and this is its thread."""
+    def _held(self) -> _Handle:
+        """The handle, where that is open and this is its thread."""
         if self._handle is None:
             raise ValueError("it is closed")
         if threading.get_ident() != self._thread:
             raise RuntimeError("it was made on another thread, and stays there")
-        return self._functions[name](self._handle, *given)
+        return self._handle
+
+    def _call(self, name: str, *given: Any) -> int:
+        """Calls a function on the handle."""
+        return self._functions[name](self._held(), *given)
 
     def close(self) -> None:
         """Gives back what it holds. A second call does nothing."""
@@ -1454,12 +1525,24 @@ class Registry(_Owner):
 
         The record is as it is in a datagram or, over tcp, without the headers of its fragments. The registry is not
         told who sent it, and the owner is what its AUTH_SYS claims: a peer that claims uid 0 can remove every row. Hand
-        on SET and UNSET, procedures 1 and 2 of program 100000, from peers that you trust alone.
+        on SET and UNSET, procedures 1 and 2 of program 100000, from peers that you trust alone, or call `answer_from`.
         """
+        return self._answered("oncrpc_registry_answer", over, record)
+
+    def answer_from(self, caller: Caller, over: str, record: Data) -> Optional[bytes]:
+        """The same by who sent the record, after rpcbind; oncrpc.h says how.
+
+        It may have come over `local` too, a socket of the host. SET and UNSET of Peer.REMOTE are AUTH_TOOWEAK, unless
+        it is trusted. The owner of a row is the user whom the kernel names. An address at 0.0.0.0 is told at the host
+        that was called, where that is known.
+        """
+        return self._answered("oncrpc_registry_answer_from", over, record, _caller(caller))
+
+    def _answered(self, name: str, over: str, record: Data, *of: _Caller) -> Optional[bytes]:
         netid, record = over.encode("utf-8"), _lent(record)
         outcome, buffer = _Outcome(), bytearray(4096)
-        given = (netid, len(netid), record, len(record), *_lend(buffer))
-        return self._placed(self._call("oncrpc_registry_answer", *given, outcome), outcome, buffer)
+        given = (*of, netid, len(netid), record, len(record), *_lend(buffer))
+        return self._placed(self._call(name, *given, outcome), outcome, buffer)
 
     def reply(self) -> Optional[bytes]:
         """The reply that waits since memory for it was refused, or None."""
@@ -1505,6 +1588,57 @@ class Registry(_Owner):
         if status not in (Status.OK, Status.UNCHANGED):
             _fail(status)
         return status == Status.OK
+
+
+class Session(_Owner):
+    """One connection to a registry, over the caller's own socket. Made by Library.session.
+
+        at = 0
+        while at < len(piece):
+            status, at = session.feed(registry, piece, at)
+            while sent := connection.send(session.output()):
+                session.took(sent)
+    """
+
+    _free = "oncrpc_session_free"
+
+    def __init__(self, library: Library, over: str, caller: Caller, bound: int) -> None:
+        netid, who, bound = over.encode("utf-8"), _caller(caller), _u(32, bound, "bound")
+        start = library._functions["oncrpc_session_start"]
+        super().__init__(library, lambda held, outcome: start(held, netid, len(netid), who, bound, outcome))
+
+    def feed(self, registry: Registry, piece: Data, start: int = 0) -> Fed:
+        """Takes bytes of the piece from `start` on, up to the end of a record, which the registry answers.
+
+        Status.OK: a record was answered, and the piece is to be fed again from `at` on. MORE_WANTED: all was taken.
+        OUTPUT_WAITS: none was, and output is to be written first. Raises RefusedError where a header brings its record
+        above 65536 bytes, and NoMemoryError; either is raised from then on, and the connection is to be closed.
+        """
+        piece = _lent(piece)
+        if not 0 <= start <= len(piece):
+            raise IndexError(f"{start} is no place in {len(piece)} bytes")
+        outcome = _Outcome()
+        first = ctypes.cast(piece, ctypes.c_void_p).value or 0
+        status = self._call("oncrpc_session_feed", registry._held(), first + start, len(piece) - start, outcome)
+        if status not in (Status.OK, Status.MORE_WANTED, Status.OUTPUT_WAITS):
+            _fail(status, outcome)
+        return Fed(Status(status), len(piece) if status == Status.MORE_WANTED else start + outcome.at)
+
+    def output(self, most: int = 65536) -> bytes:
+        """The first bytes that wait to be written, at most so many. They wait on, until `took` tells of them."""
+        outcome, buffer = _Outcome(), bytearray(most)
+        status = self._call("oncrpc_session_output", *_lend(buffer), outcome)
+        if status not in (Status.OK, Status.MORE_FOLLOWS):
+            _fail(status, outcome)
+        return _front(buffer, outcome.at)
+
+    def took(self, count: int) -> int:
+        """Tells that so many bytes of the output were written; how many wait then. Raises LimitError if fewer do."""
+        outcome = _Outcome()
+        status = self._call("oncrpc_session_took", _u(64, count, "count"), outcome)
+        if status != Status.OK:
+            _fail(status, outcome)
+        return outcome.at
 
 
 class Records(_Owner):

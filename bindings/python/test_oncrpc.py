@@ -1,7 +1,7 @@
 """What oncrpc.py makes of values, messages, records and rows.
 
 Expected values come from the RFCs, from bytes worked by hand, and from messages that real clients and rpcbind sent
-(crates/test_vectors/stdin). ONCRPC_LIBRARY names the folder of the shared library, and ONCRPC_LAYOUT a file with what a
+(tests/rows/captured.txt). ONCRPC_LIBRARY names the folder of the shared library, and ONCRPC_LAYOUT a file with what a
 C compiler makes of the header; without the second its test is skipped.
 """
 
@@ -52,7 +52,7 @@ def words(*numbers):
 
 def captured(sort):
     """The messages of one sort that were captured, `call` or `reply`."""
-    return [bytes.fromhex(it) for it in re.findall(rf"^{sort} (\w+)$", read("crates/test_vectors/stdin"), re.M)]
+    return [bytes.fromhex(it) for it in re.findall(rf"^{sort} (\w+)$", read("tests/rows/captured.txt"), re.M)]
 
 
 class Case(unittest.TestCase):
@@ -84,6 +84,7 @@ class Header(unittest.TestCase):
         numbers |= {f"ONCRPC{name} {getattr(oncrpc, name)}" for name in forms}
         numbers |= {f"ONCRPC_ROLE_{it.name} {it.value}" for it in Role}
         numbers |= {f"ONCRPC_TYPE_{it.name} {it.value}" for it in XdrType}
+        numbers |= {f"ONCRPC_PEER_{it.name} {it.value}" for it in oncrpc.Peer}
         numbers |= {f"ONCRPC_{name} {getattr(oncrpc, name)}" for name in oncrpc.__all__ if name.startswith("MOST_")}
         layouts = set()
         for name, made in oncrpc._STRUCTS.items():
@@ -745,12 +746,72 @@ class Rows(Case):
             self.assertRaises(OverflowError, registry.set, 1 << 32, 1, "tcp", "a", "b")
 
 
+class Sessions(Case):
+    """Connections to a registry, and answers by who calls (RFC 1833 section 3)."""
+
+    SET = words(9, 0, 2, 100000, 2, 1, 0, 0, 0, 0, 300, 7, 6, 2049)
+
+    def started(self):
+        registry = self.library.registry(111, b"no peer knows it")
+        self.addCleanup(registry.close)
+        return registry
+
+    def drained(self, session):
+        found = b""
+        while part := session.output(10):
+            found += part
+            session.took(len(part))
+        return found
+
+    def test_callers(self):
+        registry = self.started()
+        afar, user = oncrpc.Caller(), oncrpc.Caller(oncrpc.Peer.LOCAL_USER, 1000)
+        self.assertEqual(registry.answer_from(afar, "udp", self.SET), words(9, 1, 1, 1, 5))
+        for _ in range(2):
+            self.assertEqual(registry.answer_from(user, "tcp", self.SET), words(9, 1, 0, 0, 0, 0, 1))
+        self.assertEqual(registry.rows()[-1].owner, b"1000")
+        trusted = oncrpc.Caller(host=b"\n\t\x08\x07", trusts_remote=True)
+        self.assertEqual(registry.answer_from(trusted, "tcp", self.SET), words(9, 1, 0, 0, 0, 0, 0))
+        self.assertTrue(registry.set(301, 7, "tcp", "0.0.0.0.8.1", "1000"))
+        asked = words(9, 0, 2, 100000, 3, 3, 0, 0, 0, 0, 301, 7, 0, 0, 0)
+        self.assertTrue(registry.answer_from(trusted, "tcp", asked).endswith(b"10.9.8.7.8.1"))
+        self.assertTrue(registry.answer_from(afar, "tcp", asked).endswith(b"0.0.0.0.8.1\0"))
+        self.assertRaises(ValueError, registry.answer_from, oncrpc.Caller(host=b"abc"), "tcp", self.SET)
+        with self.assertRaises(oncrpc.OncrpcError) as refused:
+            registry.answer_from(oncrpc.Caller(3), "tcp", self.SET)
+        self.assertEqual(refused.exception.status, Status.NO_CALLER)
+
+    def test_a_connection(self):
+        registry, two = self.started(), 2 * (words(0x80000038) + self.SET)
+        with self.library.session("local", oncrpc.Caller(oncrpc.Peer.LOCAL), 0) as session:
+            self.assertEqual(session.feed(registry, two[:30]), (Status.MORE_WANTED, 30))
+            self.assertEqual(session.feed(registry, two, 30), (Status.OK, 60))
+            self.assertEqual(session.feed(registry, two, 60), (Status.OUTPUT_WAITS, 60))
+            self.assertRaises(oncrpc.LimitError, session.took, 33)
+            self.assertEqual(session.took(4), 28)
+            self.assertEqual(self.drained(session), words(9, 1, 0, 0, 0, 0, 1))
+            self.assertEqual(session.feed(registry, bytearray(two), 60), (Status.OK, 120))
+            self.assertEqual(self.drained(session), words(0x8000001C, 9, 1, 0, 0, 0, 0, 1))
+            self.refuses(Reason.TOO_LONG, 120, session.feed, registry, words(0x80010001))
+            self.refuses(Reason.TOO_LONG, 120, session.feed, registry, b"")
+            self.assertEqual(session.output(), b"")
+            self.assertRaises(IndexError, session.feed, registry, b"", 1)
+        self.assertRaises(ValueError, session.output)
+
+    def test_a_registry_that_is_closed(self):
+        registry = self.started()
+        registry.close()
+        with self.library.session() as session:
+            self.assertRaises(ValueError, session.feed, registry, b"")
+
+
 class Handles(Case):
     def test_closed(self):
         for handle, call in [
             (self.library.declarations(""), lambda it: it.check("int", bytes(4))),
             (self.library.records(), lambda it: it.feed(b"")),
             (self.library.registry(), lambda it: it.answer("tcp", b"")),
+            (self.library.session(), lambda it: it.output()),
         ]:
             with handle as same:
                 self.assertIs(same, handle)

@@ -7,7 +7,7 @@ import tempfile
 from rows.shared import Case
 
 from .large import chained
-from .running import PROGRAM, line_of, told_of
+from .running import PROGRAM, line_of, tell, told_of
 
 # A name among n is found in a map in steps that rise as the logarithm of n does, so that 12,000 names take 2.16 times
 # what 6,000 do. A walk of the whole path for each name makes it up to 4 times.
@@ -20,7 +20,7 @@ def instructions(case):
     with tempfile.TemporaryDirectory() as folder:
         words = ["valgrind", "--tool=callgrind", f"--callgrind-out-file={folder}/out", PROGRAM]
         given = line_of(case).encode() + b"\n"
-        ended = subprocess.run(words, input=given, capture_output=True, timeout=600)
+        ended = subprocess.run(words, input=given, capture_output=True, timeout=3600)
     told = told_of(ended.stdout.decode().partition("\n")[0])
     found = re.search(rb"Collected : (\d+)", ended.stderr)
     return int(found[1]) if found and (told.answer, told.streams) == WANTED else None
@@ -34,5 +34,5 @@ def counted_chain(name):
     texts = [chained(count) for count in (12000, 6000)]
     whole, half = [instructions(Case("Task::Check", kind="int", text=text, types="a.x")) for text in texts]
     is_well = bool(whole and half) and whole <= MOST * half
-    print(f"{name}: 2 runs, {0 if is_well else 1} wrong answers", *(() if is_well else (whole, half)), flush=True)
+    tell(f"{name}: 2 runs, {0 if is_well else 1} wrong answers", is_well, *(() if is_well else (whole, half)))
     return is_well

@@ -221,9 +221,10 @@ def joined_well(row, given):
     def is_well(told):
         found = [part.split(" ") for part in told.answer.split("; ")]
         bytes_of = [octets(digits) for *_, digits in found]
-        roles = [role for *_, role, _ in found]
-        for role, following, length, content_of in zip(roles, roles[1:], bytes_of, bytes_of[1:]):
-            if (role, following) == ("Length", "Content") and word(len(content_of)) != length:
+        # (the count of an array is a length as well, and what follows it has another depth, kind or name)
+        roles = [(role, part) for _, *part, role, _ in found]
+        for (role, part), following, length, content_of in zip(roles, roles[1:], bytes_of, bytes_of[1:]):
+            if role == "Length" and following == ("Content", part) and word(len(content_of)) != length:
                 return False
         padded = [each + bytes(-len(each) % 4) for each in bytes_of]
         places = [0, *itertools.accumulate(map(len, padded))]

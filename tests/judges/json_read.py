@@ -3,6 +3,7 @@ says once more what each is to tell."""
 import itertools
 import json
 
+from rows import json_by_kind
 from rows.json_grammar import FORMS, INVALID, NUMBERS, OPEN, VALID, WELL_FORMED
 from rows.json_read import LIMITED, ORDERED, READ, REFUSED
 from rows.json_texts import INDENTED, JSON, TWICE
@@ -47,7 +48,7 @@ def of_hyper(text, wanted):
 
 def worked_rows():
     """Rows worked by hand: texts that are read, and texts that are refused."""
-    for text, kind, given, digits in READ + VALID:
+    for text, kind, given, digits in READ + json_by_kind.READ + VALID:
         yield reading(text, kind, given), is_told("ok", octets(digits))
     for text, kind, digits, given in JSON + INDENTED:
         yield reading(text, kind, given.encode()), is_told("ok", octets(digits))
@@ -59,6 +60,8 @@ def worked_rows():
 
 
 def limited_rows():
+    for text, kind, marked, why in json_by_kind.REFUSED:
+        yield refused(text, kind, marked, why, 8, 64)
     for depth, most, text, kind, marked, why in LIMITED:
         if why:
             yield refused(text, kind, marked, why, depth, most)

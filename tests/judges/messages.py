@@ -1,7 +1,10 @@
 """Messages of RPC worked by hand from RFC 5531: calls, replies and bodies of AUTH_SYS, each read and written again, and
-bytes that are none."""
-from rows.messages import BODIES, CALLS, NO_BODIES, NO_CALLS, NO_REPLIES, REPLIES
-from rows.shared import Case, NULL, octets
+bytes that are none; and those that real clients and servers sent."""
+import os
+import re
+
+from rows.messages import BODIES, CALLS, NO_BODIES, NO_CALLS, NO_REPLIES, REPLIES, accepted, auth
+from rows.shared import Case, NO_AUTH, NULL, octets
 
 
 def cut_call(length):
@@ -44,7 +47,38 @@ def body_cases():
         yield read_as("read_auth_sys", octets(digits), "no credential", None)
 
 
+CALL = re.compile(r"(program .*), (AUTH_NONE|AUTH_SYS (\S+) (\d+) (\d+) \[(.*)\]), AUTH_NONE, arguments 0x(.*)")
+
+
+def captured_call(given, says):
+    """A call by its number and its words, and its body of AUTH_SYS, where it has one."""
+    found, cred = CALL.fullmatch(says), NO_AUTH
+    if found[3]:
+        body = given[32 : 32 + int.from_bytes(given[28:32], "big")]
+        cred = auth(1, body)
+        stamp, machine = int.from_bytes(body[:4], "big"), found[3].encode().hex()
+        told = f"stamp {stamp}, machine {machine}, uid {found[4]}, gid {found[5]}, gids {found[6]}"
+        yield read_as("read_auth_sys", body, told, body)
+    call = f"call {int.from_bytes(given[:4], 'big')}, {found[1]}, credential {cred}, verifier {NO_AUTH}"
+    yield read_as("read_call", given, f"{call}, arguments {found[7]}", given)
+
+
+def captured_cases():
+    """What rows/captured.txt has: a message in hexadecimal without the marks of its record, and what it says."""
+    path = os.path.join(os.path.dirname(os.path.dirname(os.path.realpath(__file__))), "rows", "captured.txt")
+    with open(path, encoding="ascii") as captured:
+        lines = [line.strip() for line in captured if not line.startswith("#")]
+    for message, says in zip(lines[::2], lines[1::2]):
+        sort, digits = message.split()
+        given = octets(digits)
+        if sort == "call":
+            yield from captured_call(given, says)
+        else:
+            status = says.removeprefix("AUTH_NONE, ").replace("0x", "").replace(" to ", " ")
+            yield read_as("read_reply", given, accepted(status, xid=int.from_bytes(given[:4], "big")), given)
+
+
 def message_cases():
     """Calls, replies and bodies."""
-    for cases in (call_cases, reply_cases, body_cases):
+    for cases in (call_cases, reply_cases, body_cases, captured_cases):
         yield from cases()

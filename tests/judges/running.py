@@ -76,7 +76,7 @@ def run_by(program, cases, limits, variables):
     """What one program tells of each case, in one run."""
     given = "".join(line_of(case) + "\n" for case in cases).encode()
     words = ["sh", "-c", f"{limits}exec '{program}'"]
-    ended = subprocess.run(words, input=given, capture_output=True, env={**os.environ, **variables}, timeout=600)
+    ended = subprocess.run(words, input=given, capture_output=True, env={**os.environ, **variables}, timeout=3600)
     lines = ended.stdout.decode().split("\n")[:-1]
     lines += [f"ended with {ended.returncode}"] * (len(cases) - len(lines))
     return [told_of(line) for line in lines]
@@ -104,12 +104,38 @@ def is_told_well(is_well, told):
         return False
 
 
-def judged(name, rows, stack=None, room=None, seconds=None, **variables):
+def judged(name, rows, stack=None, room=None, **variables):
     """Runs pairs of a case and a judge, and says whether all are well."""
+    return told_of_wrong(name, *wrong_of(rows, stack, room, None, **variables))
+
+
+def judged_in(seconds, name, cases):
+    """The same in so many processor seconds. It has three tries, of which one is enough: what a host takes of a processor
+    can be counted as the program's time, while a fault takes too long each time."""
+    for _ in range(3):
+        rows, bad = wrong_of(cases(), None, None, seconds)
+        if rows and not bad:
+            break
+    return told_of_wrong(f"{name}, {seconds} processor seconds", rows, bad)
+
+
+def wrong_of(rows, stack, room, seconds, **variables):
+    """The pairs, and each case that is not well with what is told of it."""
     rows = list(rows)
     bad = []
     for (case, is_well), told in zip(rows, run([case for case, _ in rows], stack, room, seconds, **variables)):
         if not is_told_well(is_well, told):
             bad.append((line_of(case)[:600], str(told)[:600]))
-    print(f"{name}: {len(rows)} runs, {len(bad)} wrong answers", *bad[:3], flush=True)
-    return bool(rows) and not bad
+    return rows, bad
+
+
+def told_of_wrong(name, rows, bad):
+    """Prints the line of a row of so many runs, and says whether it is well."""
+    is_well = bool(rows) and not bad
+    tell(f"{name}: {len(rows)} runs, {len(bad)} wrong answers", is_well, *bad[:3])
+    return is_well
+
+
+def tell(line, is_well, *found):
+    """Prints the line of a row. By its beginning the gate finds one that failed, as by .ci/telling.py."""
+    print(f"{'' if is_well else 'FAILED: '}{line}", *found, flush=True)

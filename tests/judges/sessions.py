@@ -8,7 +8,7 @@ refused, a connection may end at an allocation failure, and a call may be answer
 import itertools
 import random
 
-from rows.sessions import SESSIONS
+from rows.sessions import BY_CALLER, SESSIONS
 from rows.shared import (
     ASKED_AFTER,
     BY_RECORD,
@@ -35,8 +35,10 @@ from .streams import records_in, replies_to
 
 LIMIT = 65536
 NO_MEMORY = "out of memory"
-# A record, its replies without and with the row, and whether the row is there afterwards, where that changes.
+# A record, its replies without and with the row, and whether the row is there afterwards, where that changes. To a
+# caller who is known a SET of a row that is there is TRUE.
 REPLIES = BY_RECORD | {record: (record, sent, sent, None) for record, sent in (*FURTHER, (NULL[:24], denied(1)))}
+REPLIES[SET] = (SET, BY_RECORD[SET][1], BY_RECORD[SET][1], True)
 # The most bytes of a reply as a fragment.
 MOST_MARKED = 16777244
 
@@ -239,7 +241,7 @@ def alone_session_cases():
     """One connection is served what `serve` serves: its replies, in their order, and its end."""
     for given, piece in itertools.product(STREAMS, PIECES):
         found, why = records_in(given, LIMIT)
-        sent = b"".join(marked(reply) for reply in replies_to(found)[0] if reply is not None)
+        sent = b"".join(marked(reply) for reply in replies_to(found, by_record=REPLIES)[0] if reply is not None)
         case = serving(1, 1 << 20, ["open", *fed(given, piece), "write:0:1000000", "end:0"])
         ending = [f"wrote {sent.hex()}", f"refused {why}" if why else "ended"]
         yield case, lambda told, case=case, ending=ending: (
@@ -348,9 +350,22 @@ def large_session_cases():
     yield case, is_served(case)
 
 
+def caller_cases():
+    """Callers of one registry, each over a connection of its own: what is answered depends on who calls."""
+    callers = sorted({caller for caller, *_ in BY_CALLER})
+    events = [(f"open:{caller}", f"open {number}") for number, caller in enumerate(callers)]
+    for caller, asked, said in BY_CALLER:
+        record, reply = (b"".join(map(word, each)) for each in (asked, said))
+        told = f" {marked(reply).hex()}" if said else ""
+        events.append((f"take:{callers.index(caller)}:{marked(record).hex()}", f"answered {len(record) + 4}{told}"))
+    wanted = "; ".join(answer for _, answer in events)
+    yield serving(len(callers), 10000, [event for event, _ in events]), lambda told: told.answer == wanted
+
+
 def session_cases():
     yield from worked_session_cases()
     yield from alone_session_cases()
+    yield from caller_cases()
 
 
 def session_rows():

@@ -61,11 +61,11 @@ def seen_by(given, reads, is_settled=lambda seen: False):
             return given[: before + piece], False
 
 
-def replies_to(found, has_row=False):
+def replies_to(found, has_row=False, by_record=BY_RECORD):
     """The replies to records, one after another, where no memory is wanted, and whether the row is there after each."""
     replies, rows = [], []
     for _, content in found:
-        _, without, with_row, after = BY_RECORD[content]
+        _, without, with_row, after = by_record[content]
         replies.append(with_row if has_row else without)
         has_row = has_row if after is None else after
         rows.append(has_row)
@@ -127,6 +127,9 @@ def normalise_cases():
         whole = octets(digits)
         for given, reads, writes in failures(whole, normal_form(records_in(whole, limit)[0])):
             yield Case("normalise", reads, writes, limit=limit, given=given), normalised(limit, given, reads, writes)
+        # A stream in its normal form is that again.
+        normal = normal_form(records_in(whole, limit)[0])
+        yield Case("normalise", limit=limit, given=normal), lambda told, normal=normal: told.streams == [normal]
 
 
 def handed_out(limit, given):

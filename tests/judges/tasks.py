@@ -1,6 +1,6 @@
 """Tasks of the program, by all that is told of each: names that are refused, files of declarations, streams that are
 closed, and inputs and outputs of many bytes."""
-from rows.shared import Case, LIST, PIECES, PING, octets
+from rows.shared import Case, LIST, PIECES, PING, octets, word
 from rows.tasks import ENCODED, FIVE, LONG_TEXTS, ORDER, UNENCODED, UNKNOWN, UNOPENED, UNREAD
 from rows.written import CHECK, RECORDS, SHOW
 
@@ -58,6 +58,12 @@ def long_rows():
     yield Case(RECORDS, limit=65536, given=halves), (0, octets("80010000") + half + half, b"")
 
 
+def most_read_rows():
+    """A text of a value, read byte by byte: 1048576 reads are made, the last of which finds the end, and no more."""
+    for spaces, ending in ((1048574, (0, word(7), b"")), (1048575, (3, b"", b"too many reads\n"))):
+        yield Case("encode_over", (1, 0), kind="int", given=b" " * spaces + b"7", bytes=4), ending
+
+
 def ended_by(given, written, said, reads, writes):
     """How a value that is read as JSON ends where this read or this write fails. All is read, with one read more at the
     end; then all is written, or nothing."""
@@ -98,7 +104,7 @@ def encoded_rows():
 
 def program_cases():
     """Tasks, each with its status, what it prints and what it says of faults."""
-    for rows in (name_rows, declaration_rows, basic_rows, long_rows, encoded_rows):
+    for rows in (name_rows, declaration_rows, basic_rows, long_rows, most_read_rows, encoded_rows):
         for case, (status, *streams) in rows():
             wanted = str(status), streams
             yield case, lambda told, wanted=wanted: (told.answer, told.streams) == wanted

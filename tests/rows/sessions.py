@@ -58,10 +58,10 @@ SESSIONS = [
     ]),
     (1, 32, [
         ("open", "open 0"), (take(0, marked(SET)), answered(60, IS_TRUE)),
-        (take(0, marked(SET)), answered(60, IS_FALSE)), (take(0, marked(SET)), "full"), ("write:0:31", wrote(SENT[:31])),
+        (take(0, marked(SET)), answered(60, IS_TRUE)), (take(0, marked(SET)), "full"), ("write:0:31", wrote(SENT[:31])),
         (take(0, marked(GETPORT)), "full"), ("write:0:1", wrote(SENT[31:])),
         (take(0, marked(GETPORT)), answered(60, AT_2049)),
-        ("write:0:99", wrote(marked(IS_FALSE) + marked(AT_2049))),
+        ("write:0:99", wrote(marked(IS_TRUE) + marked(AT_2049))),
     ]),
     # A fault is answered for ever, keeps the output, and leaves the rows and the other connections as they are.
     (3, 1000, [
@@ -101,4 +101,53 @@ SESSIONS = [
         (take(0, SERVED_LONG[9000:9004]), answered(4, NOTHING)), (take(0, SERVED_LONG[9004:]), answered(44, NOTHING)),
         ("write:0:28", wrote(marked(NOTHING))), ("kept:0", "kept 28 of 1"), ("close:0", "closed 28"),
     ]),
+]
+# Calls of one registry, one after another: who calls, the words of the call, and those of the reply, none where there
+# is none (RFC 5531 section 9, RFC 1833 sections 2.2.1 and 3.2). A remote caller came to 10.0.0.7, changes of a trusted
+# one are taken, and the user has uid 7.
+BY_CALLER = [
+    # A remote SET of program 70000 version 1 at TCP port 515 is AUTH_ERROR AUTH_TOOWEAK.
+    ("remote", [1, 0, 2, 100000, 2, 1, 0, 0, 0, 0, 70000, 1, 6, 515], [1, 1, 1, 1, 5]),
+    # GETPORT finds nothing.
+    ("remote", [2, 0, 2, 100000, 2, 3, 0, 0, 0, 0, 70000, 1, 6, 0], [2, 1, 0, 0, 0, 0, 0]),
+    # The same SET of user 7, who claims to be user 0, is TRUE,
+    ("user", [3, 0, 2, 100000, 2, 1, 1, 20, 0, 0, 0, 0, 0, 0, 0, 70000, 1, 6, 515], [3, 1, 0, 0, 0, 0, 1]),
+    # and TRUE again,
+    ("user", [4, 0, 2, 100000, 2, 1, 0, 0, 0, 0, 70000, 1, 6, 515], [4, 1, 0, 0, 0, 0, 1]),
+    # but FALSE at another port,
+    ("user", [5, 0, 2, 100000, 2, 1, 0, 0, 0, 0, 70000, 1, 6, 516], [5, 1, 0, 0, 0, 0, 0]),
+    # and FALSE of another owner.
+    ("local", [6, 0, 2, 100000, 2, 1, 0, 0, 0, 0, 70000, 1, 6, 515], [6, 1, 0, 0, 0, 0, 0]),
+    # GETADDR of a remote caller tells the host to which it came: 10.0.0.7.2.3,
+    (
+        "remote",
+        [7, 0, 2, 100000, 3, 3, 0, 0, 0, 0, 70000, 1, 0, 0, 0],
+        [7, 1, 0, 0, 0, 0, 12, 0x3130_2e30, 0x2e30_2e37, 0x2e32_2e33],
+    ),
+    # and so does GETVERSADDR.
+    (
+        "remote",
+        [8, 0, 2, 100000, 4, 9, 0, 0, 0, 0, 70000, 1, 0, 0, 0],
+        [8, 1, 0, 0, 0, 0, 12, 0x3130_2e30, 0x2e30_2e37, 0x2e32_2e33],
+    ),
+    # Where the host is not known it is 0.0.0.0.2.3.
+    (
+        "local",
+        [9, 0, 2, 100000, 3, 3, 0, 0, 0, 0, 70000, 1, 0, 0, 0],
+        [9, 1, 0, 0, 0, 0, 11, 0x302e_302e, 0x302e_302e, 0x322e_3300],
+    ),
+    # An UNSET by nobody of this host is FALSE: the row is user 7's.
+    ("local", [10, 0, 2, 100000, 2, 2, 0, 0, 0, 0, 70000, 1, 6, 515], [10, 1, 0, 0, 0, 0, 0]),
+    # A remote UNSET of user 0 is AUTH_TOOWEAK,
+    ("remote", [11, 0, 2, 100000, 2, 2, 1, 20, 0, 0, 0, 0, 0, 0, 0, 70000, 1, 6, 515], [11, 1, 1, 1, 5]),
+    # and FALSE where remote changes are taken: nobody of another host is the superuser.
+    ("trusted", [12, 0, 2, 100000, 2, 2, 1, 20, 0, 0, 0, 0, 0, 0, 0, 70000, 1, 6, 515], [12, 1, 0, 0, 0, 0, 0]),
+    # A remote SET that is taken is TRUE.
+    ("trusted", [13, 0, 2, 100000, 2, 1, 1, 20, 0, 0, 0, 5, 0, 0, 0, 70001, 1, 17, 600], [13, 1, 0, 0, 0, 0, 1]),
+    # An UNSET of user 0 of this host is TRUE.
+    ("superuser", [14, 0, 2, 100000, 2, 2, 0, 0, 0, 0, 70000, 1, 6, 515], [14, 1, 0, 0, 0, 0, 1]),
+    # Another program is PROG_UNAVAIL.
+    ("remote", [15, 0, 2, 100001, 2, 1, 0, 0, 0, 0], [15, 1, 0, 0, 0, 1]),
+    # No call has no answer.
+    ("remote", [16, 1, 0], []),
 ]

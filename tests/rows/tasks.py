@@ -53,10 +53,12 @@ ORDER = [
     (None, "int", WIDEST + 4, b"limits refused\n"),
 ]
 # A byte of declarations, how many of them there are, how many are read at once, the read of them that fails, and how a
-# check of four bytes ends. The 262145th byte is the last that is read.
+# check of four bytes ends. The 262145th byte is the last that is read, and of one byte less the end is found by a read.
 INT, TOO_LONG, UNREAD = (0, b"ok 4\n", b""), (2, b"", b"declaration refused: 11 at 1:1\n"), (3, b"", b"read fault\n")
 LONG_TEXTS = [
     (b" ", 262144, 4096, 0, INT),
+    (b" ", 262144, 1, 262145, UNREAD),
+    (b" ", 262144, 1, 262146, INT),
     (b" ", 262145, 4096, 0, TOO_LONG),
     (b"x", 400000, 1, 262146, TOO_LONG),
 ]

@@ -36,6 +36,7 @@
 
 mod address;
 mod buffer;
+mod caller;
 mod declarations;
 mod fault;
 mod find;
@@ -50,10 +51,12 @@ mod path;
 mod records;
 mod registry;
 mod rows;
+mod session;
 mod stream;
 mod sys;
 
 pub use address::{read_uaddr, write_uaddr};
+pub use caller::{Caller, Peer};
 pub use declarations::{Checked, Declarations, Limits};
 pub use fault::{CheckFault, ReadFault, Reason, Refusal, TextFault, TextFaultKind};
 pub use find::FindFault;
@@ -67,6 +70,7 @@ pub use parts::{Iter, Part, Parts, Role, XdrType};
 pub use records::{fragment_header, normalise, NormaliseFault, MOST_RECORD};
 pub use registry::{Registry, RegistryFault, Transport, REGISTRY_DECLARATIONS};
 pub use rows::{Row, Rows};
+pub use session::{Session, SessionFault, Taken};
 pub use stream::{Records, StreamFault};
 
 /// The three numbers of the version of the library that is linked.

@@ -1,6 +1,7 @@
 //! The registry of RFC 1833, versions 2, 3 and 4 of program 100000, over the caller's own sockets.
 
 use crate::buffer::{fill, AT_OK};
+use crate::caller::Caller;
 use crate::sys;
 use std::error::Error;
 use std::fmt;
@@ -52,13 +53,16 @@ pub enum Transport {
     Tcp,
     /// UDP, by which a reply has at most 65507 bytes.
     Udp,
+    /// A Unix socket of this host, for [`Registry::answer_from`] and [`Session::start`](crate::Session::start).
+    Local,
 }
 
 impl Transport {
-    fn netid(self) -> &'static [u8] {
+    pub(crate) fn netid(self) -> &'static [u8] {
         match self {
             Self::Tcp => b"tcp",
             Self::Udp => b"udp",
+            Self::Local => b"local",
         }
     }
 }
@@ -67,6 +71,8 @@ impl Transport {
 #[derive(Clone, Copy, Debug, PartialEq, Eq, Hash)]
 #[non_exhaustive]
 pub enum RegistryFault {
+    /// [`Registry::answer`] was told of [`Transport::Local`].
+    NoTransport,
     /// Out of memory.
     NoMemory,
     /// A status that this crate does not know for the call.
@@ -76,6 +82,7 @@ pub enum RegistryFault {
 impl RegistryFault {
     pub(crate) fn of(status: u32) -> Self {
         match status {
+            sys::NO_TRANSPORT => Self::NoTransport,
             sys::NO_MEMORY => Self::NoMemory,
             _ => Self::Unknown(status),
         }
@@ -85,6 +92,7 @@ impl RegistryFault {
 impl fmt::Display for RegistryFault {
     fn fmt(&self, f: &mut fmt::Formatter<'_>) -> fmt::Result {
         match self {
+            Self::NoTransport => f.write_str("the transport is none of the call"),
             Self::NoMemory => f.write_str("out of memory"),
             Self::Unknown(status) => write!(f, "the unknown status {status}"),
         }
@@ -139,7 +147,7 @@ impl Registry {
     ///
     /// The registry is not told who sent the record, and the owner is what its AUTH_SYS claims: a peer that claims uid
     /// 0 can remove every row. Hand on SET and UNSET (procedures 1 and 2 of program 100000, [`Call::read`]) from peers
-    /// that you trust alone.
+    /// that you trust alone, or call [`Registry::answer_from`].
     ///
     /// Where the registry is out of memory the reply is SYSTEM_ERR, and the rows are as they were. Where `reply` cannot
     /// grow the answer is `NoMemory`, and what was asked for is done: [`Registry::reply`] takes the reply.
@@ -154,6 +162,40 @@ impl Registry {
             fill(reply, AT_OK, |to, capacity| {
                 let status = sys::oncrpc_registry_answer(
                     &mut self.handle,
+                    netid.as_ptr(),
+                    netid.len(),
+                    record.as_ptr(),
+                    record.len(),
+                    to,
+                    capacity,
+                    &mut outcome,
+                );
+                (status, outcome.at)
+            })
+        };
+        self.placed(status, count, reply)
+    }
+
+    /// The same by who sent the record, after rpcbind. SET and UNSET of [`Peer::Remote`](crate::Peer::Remote) are
+    /// AUTH_TOOWEAK and change no row, unless it is trusted. The owner of a row is the user whom the kernel names, and
+    /// nobody of another host is superuser. SET of a row that is there with its address and owner is TRUE. An address
+    /// at 0.0.0.0 is told at the host that was called, where that is known.
+    pub fn answer_from(
+        &mut self,
+        caller: Caller,
+        over: Transport,
+        record: &[u8],
+        reply: &mut Vec<u8>,
+    ) -> Result<bool, RegistryFault> {
+        let netid = over.netid();
+        let mut outcome = sys::Outcome::default();
+        // SAFETY: netid and record are slices; at OK so many bytes were written; handle, caller, buffer and outcome are
+        // ours alone and lie apart.
+        let (status, count) = unsafe {
+            fill(reply, AT_OK, |to, capacity| {
+                let status = sys::oncrpc_registry_answer_from(
+                    &mut self.handle,
+                    &caller.told(),
                     netid.as_ptr(),
                     netid.len(),
                     record.as_ptr(),

@@ -77,6 +77,9 @@ numbers! {
     NO_NUMBER = 28;
     NO_MEMBER = 29;
     BAD_JSON = 30;
+    NO_SESSION = 31;
+    OUTPUT_WAITS = 32;
+    NO_CALLER = 33;
 
     BAD_BOOL = 1;
     BAD_NUMBERED = 2;
@@ -147,6 +150,10 @@ numbers! {
     ITEM_FLAG = 3;
     ITEM_COUNT = 4;
     ITEM_CONTENT = 5;
+
+    PEER_REMOTE = 0;
+    PEER_LOCAL = 1;
+    PEER_LOCAL_USER = 2;
 
     SUCCESS = 0;
     PROG_UNAVAIL = 1;
@@ -233,6 +240,22 @@ structs! {
     /// A registry, or none.
     #[derive(Debug)]
     oncrpc_registry as Registry {
+        at: *mut c_void,
+        live: bool,
+    }
+
+    #[derive(Default)]
+    oncrpc_caller as Caller {
+        peer: u32,
+        uid: u32,
+        host: [u8; 4],
+        has_host: bool,
+        trusts_remote: bool,
+    }
+
+    /// A session of a connection, or none.
+    #[derive(Debug)]
+    oncrpc_session as Session {
         at: *mut c_void,
         live: bool,
     }
@@ -530,6 +553,18 @@ extern "C" {
         outcome: *mut Outcome,
     ) -> u32;
 
+    pub fn oncrpc_registry_answer_from(
+        registry: *mut Registry,
+        caller: *const Caller,
+        netid: *const u8,
+        netid_count: usize,
+        record: *const u8,
+        record_count: usize,
+        buffer: *mut u8,
+        buffer_count: usize,
+        outcome: *mut Outcome,
+    ) -> u32;
+
     pub fn oncrpc_registry_reply(
         registry: *mut Registry,
         buffer: *mut u8,
@@ -601,6 +636,34 @@ extern "C" {
     pub fn oncrpc_records_end(records: *mut Records, outcome: *mut Outcome) -> u32;
 
     pub fn oncrpc_records_free(records: *mut Records);
+
+    pub fn oncrpc_session_start(
+        session: *mut Session,
+        netid: *const u8,
+        netid_count: usize,
+        caller: *const Caller,
+        bound: u32,
+        outcome: *mut Outcome,
+    ) -> u32;
+
+    pub fn oncrpc_session_feed(
+        session: *mut Session,
+        registry: *mut Registry,
+        piece: *const u8,
+        piece_count: usize,
+        outcome: *mut Outcome,
+    ) -> u32;
+
+    pub fn oncrpc_session_output(
+        session: *mut Session,
+        buffer: *mut u8,
+        buffer_count: usize,
+        outcome: *mut Outcome,
+    ) -> u32;
+
+    pub fn oncrpc_session_took(session: *mut Session, count: usize, outcome: *mut Outcome) -> u32;
+
+    pub fn oncrpc_session_free(session: *mut Session);
 
     pub fn oncrpc_record_header(count: usize, is_last: bool, header: *mut [u8; 4]) -> u32;
 

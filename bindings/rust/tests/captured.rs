@@ -3,8 +3,8 @@
 
 use oncrpc::{Auth, AuthSys, Call, Denial, Outcome, Reply, Versions};
 
-/// Lines `call HEX` and `reply HEX`, and others that begin with `#`.
-const CAPTURED: &str = include_str!("../../../crates/test_vectors/stdin");
+/// Lines `call HEX` and `reply HEX`, and others that begin with `#` or blanks.
+const CAPTURED: &str = include_str!("../../../tests/rows/captured.txt");
 
 /// The bytes of the messages of one sort.
 fn captured(sort: &str) -> Vec<Vec<u8>> {

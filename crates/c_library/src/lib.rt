@@ -5,8 +5,8 @@
 //!
 //! - `values`: values by their declarations, and records marked anew. `paths`: one part of a value. `kinds`: what was
 //!   declared. `json`: values as JSON. `dialect`: declarations in rpcgen's dialect. `records`: a stream of records.
-//! - `calls`, `replies`, `credentials`: messages. `registry`: a registry that a program of C keeps. `addresses`:
-//!   universal addresses. `version`: that of the library.
+//! - `calls`, `replies`, `credentials`: messages. `registry`: a registry that a program of C keeps. `sessions`: the
+//!   connections over which it serves that. `addresses`: universal addresses. `version`: that of the library.
 #![tactic(auto)]
 
 mod addresses;
@@ -19,6 +19,7 @@ mod paths;
 mod records;
 mod registry;
 mod replies;
+mod sessions;
 mod values;
 mod version;
 
@@ -37,10 +38,15 @@ pub use records::{
     oncrpc_records_start, oncrpc_records_take,
 };
 pub use registry::{
-    oncrpc_registry_answer, oncrpc_registry_free, oncrpc_registry_reply, oncrpc_registry_rows,
-    oncrpc_registry_set, oncrpc_registry_start, oncrpc_registry_unset,
+    oncrpc_registry_answer, oncrpc_registry_answer_from, oncrpc_registry_free,
+    oncrpc_registry_reply, oncrpc_registry_rows, oncrpc_registry_set, oncrpc_registry_start,
+    oncrpc_registry_unset,
 };
 pub use replies::{oncrpc_reply_read, oncrpc_reply_write};
+pub use sessions::{
+    oncrpc_session_feed, oncrpc_session_free, oncrpc_session_output, oncrpc_session_start,
+    oncrpc_session_took,
+};
 pub use values::{
     oncrpc_check, oncrpc_declarations_check, oncrpc_declarations_free, oncrpc_declarations_parts,
     oncrpc_declarations_read, oncrpc_declarations_show, oncrpc_declarations_write,

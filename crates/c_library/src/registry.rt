@@ -1,5 +1,6 @@
 //! A registry that a program of C keeps (RFC 1833).
 ghost use Rattle.std.specs.Prelude.{◌≡◌, None, option_map};
+ghost use Rattle.c_registry.specs.Callers.{caller_of, IsAnsweredFromBy};
 ghost use Rattle.c_registry.specs.Held.{held_of};
 ghost use Rattle.c_registry.specs.Listed.{buffers, IsListedBy, ReportsRows};
 ghost use Rattle.c_registry.specs.Rows.{IsStarted, IsSetBy, IsUnsetBy};
@@ -8,7 +9,7 @@ ghost use Rattle.c_registry.specs.Answered.{IsAnsweredBy, IsTakenBy};
 ghost use Rattle.registry_rows.specs.Rows.{row_of};
 
 use c_answers::Outcome;
-use c_registry::{Registry, RowCounts, RowParts};
+use c_registry::{CallerParts, Registry, RowCounts, RowParts};
 use std::alloc::Global;
 
 /// Starts a registry in the handle, whose rows are its own (RFC 1833 sections 2 and 3): program 100000 in versions 2, 3
@@ -50,6 +51,31 @@ pub extern "C" fn oncrpc_registry_answer(
         (option_map held_of handle.new.held) buffer.old buffer.new) result outcome.new }
 {
     c_registry::answer_record(alloc, handle, netid, message, buffer, outcome)
+}
+
+/// Answers a record as `oncrpc_registry_answer` does, but for these, by who sent it (this project's own, after
+/// rpcbind). SET and UNSET of a caller of another host are AUTH_TOOWEAK, but where the caller is said to be trusted.
+/// The owner of a row is the user whom the kernel names, and nobody of another host is `superuser`. SET of a row that
+/// is there with the same address and owner is TRUE. GETADDR and GETVERSADDR tell an address at host 0.0.0.0 as the
+/// same port at the host that was called, where that is known. The transport may be a Unix socket of the host too,
+/// `local`.
+///
+/// The statuses are those of `oncrpc_registry_answer`, and 33: `peer` is above 2. Then the buffer and the registry are
+/// untouched. Of 18, 20 and 33 the first is answered.
+#[unsafe(no_mangle)]
+pub extern "C" fn oncrpc_registry_answer_from(
+    alloc: Global,
+    handle: &mut Registry,
+    caller: &CallerParts,
+    netid: &[u8],
+    message: &[u8],
+    buffer: &mut [u8],
+    outcome: &mut Outcome,
+) -> u32
+    ensures { Reports (IsAnsweredFromBy (option_map held_of handle.old.held) (caller_of caller.now) netid.now
+        message.now (option_map held_of handle.new.held) buffer.old buffer.new) result outcome.new }
+{
+    c_registry::answer_record_from(alloc, handle, caller, netid, message, buffer, outcome)
 }
 
 /// Puts the reply that waits for a buffer into the buffer, and then it waits no longer.

@@ -67,6 +67,7 @@ module _ (old new : List ℕ) (buffer : 24 ≤ length old) where
   given (Some bytes) waits answer.Silence s g = absurd g.0
   given (Some bytes) waits answer.NoTransport s g = absurd g.0
   given (Some bytes) waits answer.Unchanged s g = absurd g.0
+  given (Some bytes) waits answer.NoCaller s g = absurd g.0
 
 -- ---- the call is one of another version
 
@@ -105,6 +106,7 @@ module _ (cases : NoTwoCases) (old new : List ℕ) (buffer : 24 ≤ length old) 
   denied h left answer.NoRegistry i = answered h i.1 answer.NoRegistry i.3
   denied h left answer.Silence i = answered h i.1 answer.Silence i.3
   denied h left answer.Unchanged i = answered h i.1 answer.Unchanged i.3
+  denied h left answer.NoCaller i = answered h i.1 answer.NoCaller i.3
 
 -- a registry that was started holds its own rows
 pub started : (port : ℕ) (left : Option Held) (a : Answer) → IsStarted port left a → 0 ≡ status_of a
@@ -116,3 +118,4 @@ started port left answer.NoRegistry s e = absurd s
 started port left answer.Silence s e = absurd s
 started port left answer.NoTransport s e = absurd s
 started port left answer.Unchanged s e = absurd s
+started port left answer.NoCaller s e = absurd s

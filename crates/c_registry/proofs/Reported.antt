@@ -48,6 +48,7 @@ module _ (netid address owner : List ℕ) where
   set_there h l answer.Silence s e = absurd s
   set_there h l answer.NoTransport s e = absurd s
   set_there h l answer.Unchanged s e = absurd (omega (arith, e))
+  set_there h l answer.NoCaller s e = absurd s
 
   unset_there : (h l : Held) (b : Answer) → list_any (is_unset 300 7 netid owner) h.rows ≡ true
       → IsUnset h 300 7 netid owner l b → status_of b ≡ 0
@@ -58,6 +59,7 @@ module _ (netid address owner : List ℕ) where
   unset_there h l answer.Silence t u = absurd u
   unset_there h l answer.NoTransport t u = absurd u
   unset_there h l answer.Unchanged t u = absurd (false≢true (ap (λ (s : Step). s.1) u.0 ∙ t))
+  unset_there h l answer.NoCaller t u = absurd u
 
   pub removed : (held between left : Option Held) (a b : Answer) → IsSetBy held r between a
       → IsUnsetBy between 300 7 netid owner left b → 0 ≡ status_of a → status_of b ≡ 0

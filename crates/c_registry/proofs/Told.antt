@@ -48,3 +48,4 @@ written u old new answer.NoRegistry w e = absurd w
 written u old new answer.Silence w e = absurd w
 written u old new answer.NoTransport w e = absurd w
 written u old new answer.Unchanged w e = absurd w
+written u old new answer.NoCaller w e = absurd w

@@ -1,9 +1,12 @@
 pub mod Addresses
 pub mod Answered
+pub mod Callers
 pub mod Held
 pub mod Buffers
 pub mod Listed
 pub mod Private
 pub mod Rows
+pub mod Sessions
+pub mod SessionStatuses
 pub mod Statuses
 pub mod Own

@@ -13,6 +13,7 @@ status_of answer.NoRegistry = 18
 status_of answer.Silence = 19
 status_of answer.NoTransport = 20
 status_of answer.Unchanged = 21
+status_of answer.NoCaller = 33
 
 -- how many bytes were written or are needed, 0 where nothing is counted
 abbrev pub count_of : Answer → ℕ
@@ -23,6 +24,7 @@ count_of answer.NoRegistry = 0
 count_of answer.Silence = 0
 count_of answer.NoTransport = 0
 count_of answer.Unchanged = 0
+count_of answer.NoCaller = 0
 
 -- that count, and no other field
 abbrev pub outcome_of : Answer → Outcome

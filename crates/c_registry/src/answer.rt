@@ -21,6 +21,8 @@ pub enum Answer {
     NoTransport,
     /// No row was added or removed.
     Unchanged,
+    /// There is no such caller.
+    NoCaller,
 }
 
 impl Answer {
@@ -36,6 +38,7 @@ impl Answer {
             Answer::Silence => 19,
             Answer::NoTransport => 20,
             Answer::Unchanged => 21,
+            Answer::NoCaller => 33,
         }
     }
 

@@ -1,8 +1,9 @@
 //! Calls by datagrams.
-ghost use Rattle.std.specs.Prelude.{◌≡◌, ◌≢◌, ◌≤◌, ℕ, [], ◌∷◌, Some, replicate};
+ghost use Rattle.std.specs.Prelude.{◌≡◌, ◌≢◌, ◌≤◌, ℕ, List, [], ◌∷◌, Some, replicate};
 ghost use Rattle.rpc_message.specs.Spelling.{call as call_bytes};
 ghost use Rattle.rpc_message.specs.View.{call_view};
 ghost use Rattle.oncrpc_call.specs.Asked.{CanBeMade};
+ghost use Rattle.oncrpc_call.specs.Datagrams.{IsOther};
 
 use oncrpc_call::{Asked, call_datagram};
 use rpc_engine::DatagramPort;
@@ -19,6 +20,22 @@ pub fn answers_to_no_datagram<P: DatagramPort, O: Sink, F: Sink>(
 ) -> u8
     requires made { CanBeMade asked.now }
     requires none_left { P.left port.old ≡ Some [] }
+    ensures no_result { result ≢ 0 }
+    ensures no_refusal { result ≢ 1 }
+{
+    call_datagram(alloc, asked, 3, port, output, faults)
+}
+
+/// Nor is there where one comes that begins with another xid, whatever follows in it.
+pub fn answers_to_no_other_call<P: DatagramPort, O: Sink, F: Sink>(
+    alloc: Global,
+    asked: &Asked,
+    port: &mut P,
+    output: &mut O,
+    faults: &mut F,
+) -> u8
+    requires made { CanBeMade asked.now }
+    requires other { (message : List ℕ) × IsOther asked.now.call.xid message × (P.left port.old ≡ Some (message ∷ [])) }
     ensures no_result { result ≢ 0 }
     ensures no_refusal { result ≢ 1 }
 {

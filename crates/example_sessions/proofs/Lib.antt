@@ -1,2 +1,3 @@
+pub mod Denied
 pub mod Records
 pub mod Replies

@@ -1,6 +1,6 @@
 -- The record of a call of version 3 of RPC, cut in two.
 use Rattle.std.proofs.Common.{◌≡◌, ◌⊎◌, inl, inr, ℕ, true, List, [], ◌∷◌, ◌++◌, length, take, drop}
-use Rattle.std.proofs.Common.{Option}
+use Rattle.std.proofs.Common.{Option, false, ◌||◌, get_or}
 use Rattle.std.proofs.Common.{IfOk, IfErr}
 use Rattle.std.proofs.Common.{Some, Result, Ok, Err, refl, sym, ap, ◌∙◌, subst, append_assoc, arith, length-append}
 use Rattle.std.proofs.lemmas.List.{append-nil, take-append-drop}
@@ -9,16 +9,20 @@ use Rattle.registry_rows.specs.Ports.{tcp}
 use Rattle.rpc_record.specs.Marked.{header, fragment, normal, Longest}
 use Rattle.rpc_record.proofs.Longest.{Marked-same}
 use Rattle.rpc_record.proofs.Streams.{Marked-one}
-use Rattle.rpc_message.specs.Spelling.{reply}
+use Rattle.rpc_message.specs.Spelling.{reply, CallBytes}
 use Rattle.rpc_engine.specs.Run.{listed}
 use Rattle.rpc_engine.specs.Served.{most_record}
-use Rattle.registry_answer.specs.Answer.{Answer}
+use Rattle.rpc_message.specs.Message.{CallView}
+use Rattle.registry_callers.specs.Asking.{is_change, is_look_up}
+use Rattle.registry_callers.specs.From.{AnswerFrom}
+use Rattle.registry_callers.specs.Laws.{OthersAreAsEver}
 use Rattle.registry_answer.specs.Laws.{OneAnswer}
+use Rattle.registry_answer.specs.Views.{netid_of}
 use Rattle.registry_sessions.specs.declared.fault.SessionFault.{SessionFault}
 use Rattle.registry_sessions.specs.declared.fault.Taken.{Taken}
 use Rattle.registry_sessions.specs.declared.fault.Taken.TheVariants as taken
 use Rattle.registry_sessions.specs.declared.session.Session.{Session}
-use Rattle.registry_sessions.specs.Represents.{HasRead, Holds, Takes, Breaks, output_of}
+use Rattle.registry_sessions.specs.Represents.{HasRead, Holds, Takes, Breaks, origin_of, output_of}
 use Rattle.example_sessions.proofs.Replies.{version_3, mismatch, refusal, mismatched}
 
 abbrev pub first_piece : List ℕ
@@ -76,14 +80,18 @@ only_record m bytes rest h e =
         empty [] z = refl
         empty (x ∷ xs) z = absurd (omega (arith, z))
 
-module _ (one : OneAnswer) (start next last : Session) (rows mid after : List Row) where
+-- a call of version 3 of RPC is none of version 2
+no_call : (c : CallView) → CallBytes c version_3 → (is_change c || is_look_up c) ≡ false
+no_call c h = let f : 3 ≡ 2 = ap (λ (l : List ℕ). get_or l 11 0) h.parts in absurd (omega (arith, f))
+
+module _ (one : OneAnswer) (others : OthersAreAsEver) (start next last : Session) (rows mid after : List Row) where
   -- the record is whole with the second piece, and it is answered
-  pub answered : (used : ℕ) → HasRead start [] [] → Holds start [] 0
-      → Takes start next tcp rows mid first_piece taken.More
-      → Takes next last tcp mid after second_piece (taken.Answered used)
+  pub answered : (used : ℕ) → netid_of (origin_of next).transport ≡ tcp → HasRead start [] [] → Holds start [] 0
+      → Takes start next rows mid first_piece taken.More
+      → Takes next last mid after second_piece (taken.Answered used)
       → ((bytes : List ℕ) (rs : List (List ℕ)) → HasRead last bytes rs → Longest most_record rs bytes)
       → (after ≡ rows) × ((output_of last ≡ mismatch_bytes) ⊎ (output_of last ≡ refusal_bytes))
-  answered used read held first second longest =
+  answered used over read held first second longest =
       let a = second.2 in
       let bytes = first_piece ++ take used second_piece in
       let whole : HasRead last bytes (a.message ∷ []) = a.reads first_piece [] (first.1 [] [] read) in
@@ -94,7 +102,10 @@ module _ (one : OneAnswer) (start next last : Session) (rows mid after : List Ro
       let is_call = (only_record a.message bytes (drop used second_piece) (longest bytes (a.message ∷ []) whole)
       joined).0 in
       let said = mismatched one mid after a.refused a.sent
-      (subst (λ m. Answer mid tcp m a.refused after a.sent) is_call a.answer) in
+      (others (origin_of next).caller mid after tcp version_3 a.refused a.sent no_call
+      (subst (λ m. AnswerFrom (origin_of next).caller mid tcp m a.refused after a.sent) is_call
+      (subst (λ (n : List ℕ). AnswerFrom (origin_of next).caller mid n a.message a.refused after a.sent) over
+      a.answer))) in
       (said.0 ∙ first.0, by a.sent waits.waits said.1)
     where
       by : (sent : Option (List ℕ)) → output_of last ≡ normal (listed sent)
@@ -107,14 +118,14 @@ module _ (one : OneAnswer) (start next last : Session) (rows mid after : List Ro
 
 -- what an answer says that is known
 pub takes_at : (old new : Session) (rows after : List Row) (piece : List ℕ) (result : Result Taken SessionFault)
-    (t : Taken) → result ≡ Ok t → IfOk result (λ k. Takes old new tcp rows after piece k)
-    → Takes old new tcp rows after piece t
-takes_at old new rows after piece result t e h = subst (λ r. IfOk r (λ k. Takes old new tcp rows after piece k)) e h
+    (t : Taken) → result ≡ Ok t → IfOk result (λ k. Takes old new rows after piece k)
+    → Takes old new rows after piece t
+takes_at old new rows after piece result t e h = subst (λ r. IfOk r (λ k. Takes old new rows after piece k)) e h
 
 -- half a record is none
 pub half : (start last : Session) (rows after : List Row) → HasRead start [] []
     → ((bytes : List ℕ) (rs : List (List ℕ)) → HasRead last bytes rs → Longest most_record rs bytes)
-    → (result : Result Taken SessionFault) → IfOk result (λ t. Takes start last tcp rows after first_piece t)
+    → (result : Result Taken SessionFault) → IfOk result (λ t. Takes start last rows after first_piece t)
     → IfErr result (λ f. Breaks start last rows after first_piece f) → after ≡ rows
 half start last rows after read longest (Err f) takes breaks = breaks.same_rows
 half start last rows after read longest (Ok taken.More) takes breaks = takes.0

@@ -6,10 +6,21 @@ ghost use Rattle.registry_sessions.specs.Represents.{Holds, IsFull, fault_in, ou
 ghost use Rattle.registry_sessions.specs.declared.fault.Taken.TheVariants as taken;
 
 use registry_answer::{Transport, one_answer};
-use registry_sessions::{Session, SessionFault, Taken};
+use registry_callers::{Caller, Peer, others_are_as_ever};
+use registry_sessions::{Origin, Session, SessionFault, Taken};
 use rpc_directory::Directory;
 use std::alloc::Global;
 use std::hash::BuildHasher;
+
+/// Another host, over TCP.
+const AFAR: Origin = Origin {
+    caller: Caller {
+        peer: Peer::Remote,
+        host: None,
+        trusts_remote: false,
+    },
+    transport: Transport::Tcp,
+};
 
 /// A record that comes in two pieces is answered with the second, which has its last byte. It is a call of version 3 of
 /// RPC, so the output is RPC_MISMATCH, whose versions are 2 and 2, or SYSTEM_ERR where memory was refused for that. The
@@ -31,13 +42,10 @@ pub fn answers_a_record_cut_in_two<S: BuildHasher>(
         → directory.new ≡ directory.old }
 {
     one_answer();
-    let mut session = Session::start(alloc, 65536);
-    let first = session.take_in(
-        &[0x80, 0, 0, 12, 0, 0, 0, 2, 0, 0],
-        directory,
-        Transport::Tcp,
-    );
-    let second = session.take_in(&[0, 0, 0, 0, 0, 3], directory, Transport::Tcp);
+    others_are_as_ever();
+    let mut session = Session::start(alloc, 65536, AFAR);
+    let first = session.take_in(&[0x80, 0, 0, 12, 0, 0, 0, 2, 0, 0], directory);
+    let second = session.take_in(&[0, 0, 0, 0, 0, 3], directory);
     session.records_are_longest();
     (session, first, second)
 }
@@ -49,12 +57,8 @@ pub fn keeps_the_rows_at_half_a_record<S: BuildHasher>(
 ) -> Result<Taken, SessionFault>
     ensures { directory.new ≡ directory.old }
 {
-    let mut session = Session::start(alloc, 65536);
-    let taken = session.take_in(
-        &[0x80, 0, 0, 12, 0, 0, 0, 2, 0, 0],
-        directory,
-        Transport::Tcp,
-    );
+    let mut session = Session::start(alloc, 65536, AFAR);
+    let taken = session.take_in(&[0x80, 0, 0, 12, 0, 0, 0, 2, 0, 0], directory);
     session.records_are_longest();
     taken
 }
@@ -71,7 +75,7 @@ pub fn takes_nothing_above_the_bound<S: BuildHasher>(
     ensures same { session.new ≡ session.old }
     ensures rows { directory.new ≡ directory.old }
 {
-    session.take_in(piece, directory, Transport::Tcp)
+    session.take_in(piece, directory)
 }
 
 /// Where a write takes some of the output, the rest of the replies waits, in order, and nothing of it is lost.

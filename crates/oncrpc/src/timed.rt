@@ -65,7 +65,18 @@ impl<'a> Until<'a> {
     pub fn is_why(&self, error: &io::Error) -> bool {
         is_of_time(error) && self.is_over()
     }
+
+    // Whether the system ended a wait too early, as where its ticks came late before it.
+    fn is_early<T>(&self, tried: &io::Result<T>) -> bool {
+        match tried {
+            Ok(_) => false,
+            Err(error) => is_of_time(error) && !self.is_over(),
+        }
+    }
 }
+
+// How often in turn a wait may end too early before its error is taken for what it says.
+const EARLY: u32 = 1000;
 
 // So many seconds from now, where the clock has that moment.
 fn after(rt: &HostRuntime, seconds: u32) -> io::Result<Option<Instant>> {
@@ -96,6 +107,18 @@ impl<'a> TimedReader<'a> {
     }
 
     fn read_in_time(&self, array: &mut [u8; 4096]) -> io::Result<usize>
+        ensures { IfOk result (λ n. n ≤ 4096) }
+    {
+        for _ in 0..EARLY {
+            let read = self.read_once(array);
+            if !self.until.is_early(&read) {
+                return read;
+            }
+        }
+        self.read_once(array)
+    }
+
+    fn read_once(&self, array: &mut [u8; 4096]) -> io::Result<usize>
         ensures { IfOk result (λ n. n ≤ 4096) }
     {
         self.stream.set_read_timeout(self.until.left()?)?;
@@ -140,6 +163,18 @@ impl<'a> TimedWriter<'a> {
     }
 
     fn write_in_time(&self, piece: &[u8]) -> io::Result<usize>
+        ensures { IfOk result (λ n. n ≤ length piece.now) }
+    {
+        for _ in 0..EARLY {
+            let written = self.write_once(piece);
+            if !self.until.is_early(&written) {
+                return written;
+            }
+        }
+        self.write_once(piece)
+    }
+
+    fn write_once(&self, piece: &[u8]) -> io::Result<usize>
         ensures { IfOk result (λ n. n ≤ length piece.now) }
     {
         self.stream.set_write_timeout(self.until.left()?)?;
@@ -205,6 +240,18 @@ impl<'a> TimedPort<'a> {
     }
 
     fn receive_in_time(&self, array: &mut [u8; 65536]) -> io::Result<usize>
+        ensures { IfOk result (λ n. n ≤ 65536) }
+    {
+        for _ in 0..EARLY {
+            let received = self.receive_once(array);
+            if !self.turn.is_early(&received) {
+                return received;
+            }
+        }
+        self.receive_once(array)
+    }
+
+    fn receive_once(&self, array: &mut [u8; 65536]) -> io::Result<usize>
         ensures { IfOk result (λ n. n ≤ 65536) }
     {
         self.socket.set_read_timeout(self.turn.left()?)?;

@@ -1,15 +1,17 @@
--- Replies that are passed over, one after another.
+-- Datagrams that are passed over, one after another.
 use Rattle.std.proofs.Common.{◌≡◌, ℕ, ◌+◌, ◌≤◌, List, [], ◌∷◌, ◌++◌, length, replicate, Result, Ok, Err, refl}
-use Rattle.std.proofs.Common.{ap}
+use Rattle.std.proofs.Common.{◌≢◌, ap, sym}
 use Rattle.std.proofs.Common.{◌∙◌, arith, inl, inr, length-append}
 use Rattle.std.proofs.Common.{suc, zero}
 use Rattle.std.proofs.lemmas.List.{append-nil}
 use Rattle.std.specs.List.{AllByRecursion}
 use Rattle.rpc_message.specs.declared.message.Reply.{Reply}
+use Rattle.rpc_message.specs.Message.{Accepted, Denied, ReplyView}
+use Rattle.rpc_message.specs.Spelling.{ReplyBytes}
 use Rattle.rpc_engine.specs.declared.fault.ClientFault.{ClientFault}
 use Rattle.rpc_engine.specs.declared.fault.ClientFault.TheVariants as fault
 use Rattle.rpc_engine.specs.DatagramExchange.{Replies}
-use Rattle.rpc_engine.specs.Exchanged.{read_failures, write_failures}
+use Rattle.rpc_engine.specs.Exchanged.{read_failures, write_failures, xid_of}
 use Rattle.rpc_engine.specs.Ports.{Reported, Receives, Sends}
 use Rattle.rpc_engine.proofs.Ports.{Receives-none, Receives-trans, Sends-trans}
 use Rattle.oncrpc_call.specs.Datagrams.{Answered, IsAnswer, IsOther, PassesOver, most_passed, unanswered}
@@ -29,20 +31,26 @@ over_then xid a b c ps qs p q = record {
   received = Receives-trans a b c ps qs (ps ++ qs) refl p.received q.received;
 }
 
--- one more reply to another call
-pub over_more : (xid got : ℕ) (a b c : Reported) (ps : List (List ℕ)) (m : List ℕ) → PassesOver xid a b ps
-    → Receives b c (m ∷ []) → Replies xid m (Err (fault.WrongXid got)) → PassesOver xid a c (ps ++ m ∷ [])
-over_more xid got a b c ps m p r other =
-    over_then xid a b c ps (m ∷ []) p (record { others = ((got, other), tt); received = r })
+-- one more datagram of another call
+pub over_more : (xid : ℕ) (a b c : Reported) (ps : List (List ℕ)) (m : List ℕ) → PassesOver xid a b ps
+    → Receives b c (m ∷ []) → IsOther xid m → PassesOver xid a c (ps ++ m ∷ [])
+over_more xid a b c ps m p r other =
+    over_then xid a b c ps (m ∷ []) p (record { others = (other, tt); received = r })
 
--- a message that is no reply to another call is what the answer speaks of
-pub spoken_of : (xid : ℕ) (a b : Reported) (m : List ℕ) (answer : Result Reply ClientFault)
-    → ((got : ℕ) → answer ≡ Err (fault.WrongXid got) → ⊥) → Receives a b (m ∷ []) → Replies xid m answer
-    → IsAnswer xid a b answer
-spoken_of xid a b m (Ok reply) own r says = (m, r, says)
-spoken_of xid a b m (Err (fault.Reply f)) own r says = (m, r, says)
-spoken_of xid a b m (Err fault.NoMemory) own r says = inr (m, r)
-spoken_of xid a b m (Err (fault.WrongXid got)) own r says = absurd (own got refl)
+-- a reply begins with its xid
+begins_other : (xid got : ℕ) (m : List ℕ) (v : ReplyView) → ReplyBytes v m → xid_of v ≡ got → got ≢ xid → IsOther xid m
+begins_other xid got m (Accepted x verf s) p e ne =
+    record { got = x; rest = _; fits = p.fits.0; begins = p.parts; other = λ f. ne (sym e ∙ f) }
+begins_other xid got m (Denied x w) p e ne =
+    record { got = x; rest = _; fits = p.fits.0; begins = p.parts; other = λ f. ne (sym e ∙ f) }
+
+-- a message that begins with no other xid is what the answer speaks of
+pub spoken_of : (xid : ℕ) (a b : Reported) (m : List ℕ) (answer : Result Reply ClientFault) → (IsOther xid m → ⊥)
+    → Receives a b (m ∷ []) → Replies xid m answer → IsAnswer xid a b answer
+spoken_of xid a b m (Ok reply) own r says = (m, (r, own), says)
+spoken_of xid a b m (Err (fault.Reply f)) own r says = (m, (r, own), says)
+spoken_of xid a b m (Err fault.NoMemory) own r says = inr (m, (r, own))
+spoken_of xid a b m (Err (fault.WrongXid got)) own r ((v, (p, e)), ne) = absurd (own (begins_other xid got m v p e ne))
 spoken_of xid a b m (Err fault.Read) own r says = absurd says
 spoken_of xid a b m (Err (fault.Write written)) own r says = absurd says
 spoken_of xid a b m (Err fault.TooManyReads) own r says = absurd says
@@ -60,7 +68,7 @@ no_device xid m (Err (fault.Write written)) says = absurd says
 no_device xid m (Err fault.TooManyReads) says = absurd says
 no_device xid m (Err (fault.Record f)) says = absurd says
 
--- replies that are passed over before others are
+-- datagrams that are passed over before others are
 pub answered_then : (xid : ℕ) (a b c : Reported) (ps : List (List ℕ)) (answer : Result Reply ClientFault)
     → PassesOver xid a b ps → Answered xid b c answer → Answered xid a c answer
 answered_then xid a b c ps answer p h =
@@ -146,22 +154,22 @@ pub unread_at : (xid : ℕ) (a b : Reported) (ps : List (List ℕ)) → PassesOv
 unread_at xid a b ps p =
     record { passed = ps; before = b; over = p; answered = Receives-none b; many = λ e. cc }
 
--- the receive that fails behind replies to other calls
+-- the receive that fails behind datagrams of other calls
 pub failed_at : (xid : ℕ) (a b c : Reported) (ps : List (List ℕ)) → PassesOver xid a b ps → Receives b c []
     → Answered xid a c (Err fault.Read)
 failed_at xid a b c ps p none =
     record { passed = ps; before = b; over = p; answered = none; many = λ e. cc }
 
--- too many replies to other calls
+-- too many datagrams of other calls
 pub too_many_at : (xid : ℕ) (a b : Reported) (ps : List (List ℕ)) → PassesOver xid a b ps → most_passed ≤ length ps
     → Answered xid a b (Err fault.TooManyReads)
 too_many_at xid a b ps p most =
     record { passed = ps; before = b; over = p; answered = Receives-none b; many = λ e. most }
 
--- the message that is no reply to another call
+-- the message that is of no other call
 pub spoken_at : (xid : ℕ) (a b c : Reported) (ps : List (List ℕ)) (m : List ℕ) (answer : Result Reply ClientFault)
-    → ((got : ℕ) → answer ≡ Err (fault.WrongXid got) → ⊥) → PassesOver xid a b ps → Receives b c (m ∷ [])
-    → Replies xid m answer → Answered xid a c answer
+    → (IsOther xid m → ⊥) → PassesOver xid a b ps → Receives b c (m ∷ []) → Replies xid m answer
+    → Answered xid a c answer
 spoken_at xid a b c ps m answer own p r says = record {
   passed = ps;
   before = b;

@@ -1,11 +1,13 @@
 -- What is sent and received where a call is made by datagrams (RFC 5531 section 9).
-use Rattle.std.specs.Prelude.{◌≡◌, ◌⊎◌, ℕ, ◌+◌, ◌-◌, ◌≤◌, List, [], ◌∷◌, length, replicate, Option, Result, Err}
+use Rattle.std.specs.Prelude.{◌≡◌, ◌≢◌, ◌⊎◌, ℕ, ◌+◌, ◌-◌, ◌≤◌, List, [], ◌∷◌, ◌++◌, length, replicate, Option}
+use Rattle.std.specs.Prelude.{Result, Err}
 use Rattle.std.specs.List.{AllByRecursion}
 use Rattle.xdr_io.specs.Reported.{Counts}
+use Rattle.xdr_units.specs.Numbers.{word, IsWord}
 use Rattle.rpc_message.specs.declared.message.Reply.{Reply}
 use Rattle.rpc_engine.specs.declared.fault.ClientFault.{ClientFault}
 use Rattle.rpc_engine.specs.declared.fault.ClientFault.TheVariants as fault
-use Rattle.rpc_engine.specs.DatagramExchange.{IsMessageCase, OtherReply, Replies}
+use Rattle.rpc_engine.specs.DatagramExchange.{Replies}
 use Rattle.rpc_engine.specs.Exchanged.{read_failures, write_failures}
 use Rattle.rpc_engine.specs.Ports.{Reported, Receives, Sends}
 use Rattle.oncrpc_service.specs.Datagrams.{Reporting}
@@ -15,18 +17,26 @@ abbrev pub report_of : {P : Type 0} → (left sent : P → Reported) → (unrece
 report_of left sent unreceived unsent p =
     record { left = left p; sent = sent p; unreceived = unreceived p; unsent = unsent p }
 
--- how many replies to other calls are passed over after each sending
+-- how many datagrams of other calls are passed over after each sending
 abbrev pub most_passed : ℕ
 most_passed = 1048576
 
--- a reply to another call than that with this xid
-abbrev pub IsOther : (xid : ℕ) → (message : List ℕ) → Type 0
-IsOther xid message = (got : ℕ) × IsMessageCase xid message (OtherReply got)
+-- The message begins with another xid than this (RFC 5531 section 9, rpc_msg).
+pub record IsOther (xid : ℕ) (message : List ℕ) : Type 0 where
+  pub got : ℕ
+  pub rest : List ℕ
+  pub fits : IsWord got
+  pub begins : message ≡ word got ++ rest
+  pub other : got ≢ xid
 
--- Replies to other calls were received, and passed over.
+-- Datagrams of other calls were received, and passed over.
 pub record PassesOver (xid : ℕ) (left left' : Reported) (passed : List (List ℕ)) : Type 0 where
   pub others : AllByRecursion (IsOther xid) passed
   pub received : Receives left left' passed
+
+-- this message was received, and it begins with no other xid
+abbrev pub Brings : (xid : ℕ) → (left left' : Reported) → (message : List ℕ) → Type 0
+Brings xid left left' message = Receives left left' (message ∷ []) × (IsOther xid message → ⊥)
 
 -- What an answer says of what was received behind them: the message of which it speaks; where a device failed, or there
 -- were too many, none; where memory was refused one or none.
@@ -36,10 +46,10 @@ IsAnswer xid left left' (Err (fault.Write written)) = (written ≡ 0) × Receive
 IsAnswer xid left left' (Err fault.TooManyReads) = Receives left left' []
 IsAnswer xid left left' (Err (fault.WrongXid got)) = ⊥
 IsAnswer xid left left' (Err fault.NoMemory) =
-    Receives left left' [] ⊎ ((message : List ℕ) × Receives left left' (message ∷ []))
-IsAnswer xid left left' answer = (message : List ℕ) × Receives left left' (message ∷ []) × Replies xid message answer
+    Receives left left' [] ⊎ ((message : List ℕ) × Brings xid left left' message)
+IsAnswer xid left left' answer = (message : List ℕ) × Brings xid left left' message × Replies xid message answer
 
--- Replies to other calls were passed over, and the answer speaks of what came behind them.
+-- Datagrams of other calls were passed over, and the answer speaks of what came behind them.
 pub record Answered (xid : ℕ) (left left' : Reported) (answer : Result Reply ClientFault) : Type 0 where
   pub passed : List (List ℕ)
   pub before : Reported

@@ -49,8 +49,8 @@ pub fn call_over<R: Source, W: Sink, O: Sink, F: Sink>(
 }
 
 /// Makes the call by datagrams, and prints what `call_over` prints of the reply. It is sent once more where a receive
-/// fails, as it does where none came in time, so many times in all, and replies to other calls are passed over. A port
-/// or an output that fails is status 3.
+/// fails, as it does where none came in time, so many times in all. Datagrams that begin with another xid are passed
+/// over. A port or an output that fails is status 3.
 ///
 /// The schema has the kind of the result, credential and verifier have at most 400 bytes each. A call of more than
 /// 65507 bytes, the most of a datagram over IPv4, is for the port to refuse.

@@ -1,25 +1,26 @@
-//! A call made by datagrams: it is sent again while no reply comes, and replies to other calls are passed over.
-ghost use Rattle.std.specs.Prelude.{◌≡◌, ◌≤◌, ℕ, [], Err, MatchBool, length};
+//! A call made by datagrams: it is sent again while no reply comes, and datagrams of other calls are passed over.
+ghost use Rattle.std.specs.Prelude.{◌≡◌, ◌≤◌, [], Err, MatchBool, length};
 ghost use Rattle.xdr_io.specs.Reported.{Counts};
 ghost use Rattle.rpc_message.specs.Spelling.{call as call_bytes};
 ghost use Rattle.rpc_message.specs.View.{call_view};
 ghost use Rattle.rpc_engine.specs.Exchanged.{read_failures, write_failures};
 ghost use Rattle.rpc_engine.specs.Ports.{Sends};
 ghost use Rattle.rpc_engine.specs.declared.fault.ClientFault.TheVariants as faults;
-ghost use Rattle.oncrpc_call.specs.Datagrams.{Answered, AsksByDatagrams, report_of};
+ghost use Rattle.oncrpc_call.specs.Datagrams.{Answered, AsksByDatagrams, IsOther, report_of};
 
 use rpc_engine::{ClientFault, DatagramPort, PortFault, reply_to};
 use rpc_message::{Call, Reply, write_call};
 use std::alloc::Global;
+use xdr_units::first_word;
 
-/// How many replies to other calls are passed over after each sending.
+/// How many datagrams of other calls are passed over after each sending.
 pub const MOST_PASSED: u32 = 1048576;
 
-/// Sends the call in one datagram, and receives until a datagram comes that is no reply to another call (RFC 5531
+/// Sends the call in one datagram, and receives until a datagram comes that does not begin with another xid (RFC 5531
 /// section 9). Where a receive fails, as it does where none came in time, the call is sent once more, so many times in
 /// all. Each has the same xid, so that the reply to any of them is one. `Read` comes where the last receive failed, and
-/// `Write`, of 0 bytes, where a send failed. `TooManyReads` comes after 1048576 replies to other calls, and `WrongXid`
-/// and `Record` do not come.
+/// `Write`, of 0 bytes, where a send failed. `TooManyReads` comes after 1048576 datagrams of other calls, and
+/// `WrongXid` and `Record` do not come.
 ///
 /// Credential and verifier have at most 400 bytes each, and the call at most 65507, the most of a datagram over IPv4.
 pub fn ask_by_datagrams<P: DatagramPort>(
@@ -51,7 +52,7 @@ pub fn ask_by_datagrams<P: DatagramPort>(
     Err(ClientFault::Read)
 }
 
-// Receives until a datagram comes that is no reply to another call.
+// Receives until a datagram comes that does not begin with another xid.
 fn receive_reply<P: DatagramPort>(
     alloc: Global,
     port: &mut P,
@@ -69,22 +70,20 @@ fn receive_reply<P: DatagramPort>(
             Ok(n) => n as usize,
             Err(PortFault) => return Err(ClientFault::Read),
         };
-        let answer = reply_to(alloc, xid, &array[..n]);
-        if is_own(&answer) {
-            return answer;
+        if is_own(xid, &array[..n]) {
+            return reply_to(alloc, xid, &array[..n]);
         }
     }
     Err(ClientFault::TooManyReads)
 }
 
-// Whether a message is no reply to another call.
-fn is_own(answer: &Result<Reply, ClientFault>) -> bool
-    ensures { MatchBool result ((got : ℕ) → answer.now ≡ Err (faults.WrongXid got) → ⊥)
-        ((got : ℕ) × (answer.now ≡ Err (faults.WrongXid got))) }
+// Whether a message begins with no other xid. It takes no memory.
+fn is_own(xid: u32, message: &[u8]) -> bool
+    ensures { MatchBool result (IsOther xid message.now → ⊥) (IsOther xid message.now) }
 {
-    match answer {
-        Err(ClientFault::WrongXid { got: _got }) => false,
-        _ => true,
+    match first_word(message) {
+        Some((got, _rest)) => got == xid,
+        None => true,
     }
 }
 

@@ -4,6 +4,7 @@ use Rattle.std.proofs.Common.{IfSome, IfNone, IfOk, OnErr, sym, subst}
 use Rattle.std.proofs.lemmas.List.{append-nil}
 use Rattle.registry_rows.specs.Rows.{Row}
 use Rattle.registry_sessions.specs.declared.table.SessionTable.{SessionTable}
+use Rattle.registry_sessions.specs.declared.origin.Origin.{Origin}
 use Rattle.registry_sessions.specs.Events.{Event, Opens}
 use Rattle.registry_sessions.specs.Progress.{HasDone, Proceeds, happened}
 use Rattle.registry_sessions.specs.declared.fault.OpenFault.{OpenFault}
@@ -57,8 +58,8 @@ goes_taken old new mid after number piece None some none =
     subst (λ x. Goes old x mid after) (sym none.0) (subst (λ x. Goes old old mid x) (sym none.1) (goes_none old mid))
 
 -- a session that was begun, or could not be
-pub goes_open : (old new : SessionTable) (r : Result ℕ OpenFault)
-    → IfOk r (λ i. (rows : List Row) → Proceeds old new rows rows (Opens i ∷ []) [])
+pub goes_open : (origin : Origin) (old new : SessionTable) (r : Result ℕ OpenFault)
+    → IfOk r (λ i. (rows : List Row) → Proceeds old new rows rows (Opens i origin ∷ []) [])
     → OnErr r ((rows : List Row) → Proceeds old new rows rows [] []) → (rows : List Row) → Goes old new rows rows
-goes_open old new (Ok i) ok err rows = goes_by old new rows rows (Opens i ∷ []) [] (ok rows)
-goes_open old new (Err f) ok err rows = goes_by old new rows rows [] [] (err rows)
+goes_open origin old new (Ok i) ok err rows = goes_by old new rows rows (Opens i origin ∷ []) [] (ok rows)
+goes_open origin old new (Err f) ok err rows = goes_by old new rows rows [] [] (err rows)

@@ -1,16 +1,22 @@
 -- The line of a connection that has ended, of `serve --verbose` (this project's own).
 use Rattle.std.specs.Prelude.{ℕ, ◌+◌, List, ◌++◌, codes, decimal}
 use Rattle.std.specs.Net.Text.{socket_text}
-use Rattle.std.specs.declared.net.socket_addr.SocketAddr.{SocketAddr}
 use Rattle.rpc_record.specs.declared.fault.RecordFault.TheVariants as fault
 use Rattle.oncrpc_sessions.specs.declared.ending.Ending.{Ending}
 use Rattle.oncrpc_sessions.specs.declared.ending.Why.{Why}
 use Rattle.oncrpc_sessions.specs.declared.ending.Why.TheVariants as why
+use Rattle.oncrpc_sessions.specs.declared.whence.Whence.{Whence}
+use Rattle.oncrpc_sessions.specs.declared.whence.Whence.TheVariants as whence
 
--- which connection it is, counted from 1, and from which address and port it came (own)
-abbrev pub connection_text : (number : ℕ) → SocketAddr → List ℕ
-connection_text number peer =
-    codes "connection " ++ decimal (number + 1) ++ codes " from " ++ socket_text peer ++ codes ": "
+-- where it came from: an address and a port, or this host's Unix socket (own)
+abbrev pub whence_text : Whence → List ℕ
+whence_text (whence.Address peer) = socket_text peer
+whence_text whence.Local = codes "local"
+
+-- which connection it is, counted from 1, and where it came from (own)
+abbrev pub connection_text : (number : ℕ) → Whence → List ℕ
+connection_text number w =
+    codes "connection " ++ decimal (number + 1) ++ codes " from " ++ whence_text w ++ codes ": "
 
 -- what became of it: how many records and replies there were, or why it ended (own)
 abbrev pub outcome_text : (records replies : ℕ) → Why → List ℕ
@@ -25,4 +31,4 @@ outcome_text records replies (why.Fault fault.NoMemory) = codes "NoMemory\n"
 
 -- the whole line (own)
 abbrev pub ending_line : Ending → List ℕ
-ending_line e = connection_text e.number e.peer ++ outcome_text e.records e.replies e.why
+ending_line e = connection_text e.number e.whence ++ outcome_text e.records e.replies e.why

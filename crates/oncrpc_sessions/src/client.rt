@@ -4,15 +4,15 @@ ghost use Rattle.registry_rows.specs.Rows.{Row};
 ghost use Rattle.oncrpc_sessions.specs.Loops.{Goes};
 
 use crate::ending::{Ending, Why};
+use crate::stream::Stream;
+use crate::whence::Whence;
 use mio::event::Event;
-use mio::net::TcpStream;
 use registry_sessions::{SessionFault, SessionTable, Taken};
 use rpc_directory::Directory;
 use rpc_record::RecordFault;
 use std::alloc::Global;
 use std::hash::BuildHasher;
-use std::io::{ErrorKind, Read, Write};
-use std::net::SocketAddr;
+use std::io::ErrorKind;
 use std::time::{Duration, Instant};
 
 /// How many bytes are read at most at a time.
@@ -22,8 +22,8 @@ const MOST_READ: usize = 4096;
 /// a read or a write would block.
 #[derive(Drop)]
 pub struct Client {
-    stream: TcpStream,
-    peer: SocketAddr,
+    stream: Stream,
+    whence: Whence,
     /// The number of its session in the table.
     number: u64,
     /// Bytes that were read, and not taken yet.
@@ -57,16 +57,10 @@ fn why_ended(ended: Option<Result<(), SessionFault>>) -> Why {
 impl Client {
     /// A client over a socket that does not block, whose session has this number in the table. Nothing of it was read
     /// yet. It takes no memory.
-    pub fn new(
-        alloc: Global,
-        stream: TcpStream,
-        peer: SocketAddr,
-        number: u64,
-        last: Instant,
-    ) -> Self {
+    pub fn new(alloc: Global, stream: Stream, whence: Whence, number: u64, last: Instant) -> Self {
         Client {
             stream,
-            peer,
+            whence,
             number,
             piece: Vec::new(alloc),
             waiting: 0,
@@ -94,6 +88,11 @@ impl Client {
         self.is_to_be_read(table) || self.is_to_be_taken(table) || self.is_to_be_written(table)
     }
 
+    /// It is at the Unix socket.
+    pub fn is_local(&self) -> bool {
+        self.whence == Whence::Local
+    }
+
     /// Nothing is left to do for it.
     pub fn is_done(&self) -> bool {
         self.ending.is_some() && self.piece.is_empty() && self.waiting == 0
@@ -116,7 +115,7 @@ impl Client {
         let _session = table.close(self.number);
         Ending {
             number: self.number,
-            peer: self.peer,
+            whence: self.whence,
             records: self.records,
             replies: self.replies,
             why: self.ending.unwrap_or(Why::Idle),

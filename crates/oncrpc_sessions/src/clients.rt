@@ -5,6 +5,7 @@ ghost use Rattle.registry_rows.specs.Rows.{Row};
 
 use crate::client::Client;
 use crate::ending::Ending;
+use crate::whence::Whence;
 use mio::event::Event;
 use registry_sessions::SessionTable;
 use rpc_directory::Directory;
@@ -22,6 +23,8 @@ const MOST_MADE: usize = 65536;
 #[derive(Drop)]
 pub struct Clients {
     places: Vec<Option<Client>>,
+    /// How many clients are at the Unix socket.
+    local_count: usize,
     /// Some client has more to do before its socket is ready for more.
     is_busy: bool,
     /// How many bytes of replies were made in these turns.
@@ -36,6 +39,7 @@ impl Clients {
     pub fn new(alloc: Global, is_told: bool) -> Self {
         Clients {
             places: Vec::new(alloc),
+            local_count: 0,
             is_busy: false,
             made: 0,
             endings: Vec::new(alloc),
@@ -46,6 +50,11 @@ impl Clients {
     /// Some client has more to do before its socket is ready for more.
     pub fn is_busy(&self) -> bool {
         self.is_busy
+    }
+
+    /// How many clients are at the Unix socket.
+    pub fn local_count(&self) -> usize {
+        self.local_count
     }
 
     /// What became of those that have gone since this was emptied.
@@ -74,8 +83,10 @@ impl Clients {
 
     /// Puts a client at a place that is there.
     pub fn put(&mut self, place: usize, client: Client) {
+        let is_local = client.is_local();
         if let Some(slot) = self.places.get_mut(place) {
             *slot = Some(client);
+            self.local_count = self.local_count.saturating_add(is_local as usize);
         }
     }
 
@@ -153,11 +164,13 @@ impl Clients {
         };
         let ending = client.close(table);
         *slot = None;
-        self.tell(ending);
+        self.let_go(ending);
     }
 
-    /// Keeps what became of a client, where that is asked and memory is there.
-    fn tell(&mut self, ending: Ending) {
+    /// Counts a client no more, and keeps what became of it, where that is asked and memory is there.
+    fn let_go(&mut self, ending: Ending) {
+        let is_local = ending.whence == Whence::Local;
+        self.local_count = self.local_count.saturating_sub(is_local as usize);
         if self.is_told {
             let _kept = self.endings.push(ending);
         }

@@ -1,6 +1,7 @@
 //! The datagrams of a registry, over a socket that does not block.
 ghost use Rattle.oncrpc_sessions.specs.Loops.{Goes};
 
+use crate::whence::{called_at, caller_at};
 use mio::net::UdpSocket;
 use mio::{Interest, Registry, Token};
 use registry_answer::Appended;
@@ -23,6 +24,9 @@ const MOST_DATAGRAM: usize = 65536;
 #[derive(Drop)]
 pub struct Datagrams {
     socket: UdpSocket,
+    /// The address at which it is bound, 0.0.0.0 for every one of this host.
+    bound: SocketAddr,
+    trusts_remote: bool,
     may_receive: bool,
     datagram: Vec<u8>,
     reply: Vec<u8>,
@@ -30,11 +34,18 @@ pub struct Datagrams {
 
 impl Datagrams {
     /// Binds a socket at this address.
-    pub fn bind<R: Net>(rt: &R, alloc: Global, address: SocketAddr) -> io::Result<Datagrams> {
+    pub fn bind<R: Net>(
+        rt: &R,
+        alloc: Global,
+        address: SocketAddr,
+        trusts_remote: bool,
+    ) -> io::Result<Datagrams> {
         let datagram = Vec::from_elem(alloc, 0, MOST_DATAGRAM)?;
         let socket = UdpSocket::bind(rt, address)?;
         Ok(Datagrams {
             socket,
+            bound: address,
+            trusts_remote,
             may_receive: true,
             datagram,
             reply: Vec::new(alloc),
@@ -57,16 +68,26 @@ impl Datagrams {
     }
 
     /// Answers those that wait.
-    pub fn receive<S: BuildHasher>(&mut self, table: &SessionTable, directory: &mut Directory<S>)
+    pub fn receive<R: Net, S: BuildHasher>(
+        &mut self,
+        rt: &R,
+        table: &SessionTable,
+        directory: &mut Directory<S>,
+    )
         ensures { Goes table.now table.now directory.old directory.new }
     {
         for _ in 0..MOST_AT_ONCE {
-            self.receive_one(table, directory);
+            self.receive_one(rt, table, directory);
         }
     }
 
     /// Answers one datagram, where one may wait.
-    fn receive_one<S: BuildHasher>(&mut self, table: &SessionTable, directory: &mut Directory<S>)
+    fn receive_one<R: Net, S: BuildHasher>(
+        &mut self,
+        rt: &R,
+        table: &SessionTable,
+        directory: &mut Directory<S>,
+    )
         ensures { Goes table.now table.now directory.old directory.new }
     {
         if !self.is_busy() {
@@ -79,7 +100,12 @@ impl Datagrams {
                 return;
             }
         };
-        let appended = table.receive(&self.datagram[..n], directory, &mut self.reply);
+        let caller = caller_at(
+            sender,
+            called_at(rt, self.bound, sender),
+            self.trusts_remote,
+        );
+        let appended = table.receive(&self.datagram[..n], caller, directory, &mut self.reply);
         self.send(appended, sender);
     }
 

@@ -1,7 +1,9 @@
 //! What became of a connection.
 ghost use Rattle.std.specs.Prelude.{◌≡◌, IfOk, string_bytes};
 ghost use Rattle.oncrpc_sessions.specs.Endings.{connection_text, outcome_text, ending_line};
+ghost use Rattle.oncrpc_sessions.specs.declared.whence.Whence.TheVariants as over;
 
+use crate::whence::Whence;
 use registry_sessions::SessionFault;
 use rpc_record::RecordFault;
 use std::alloc::{AllocError, Global};
@@ -23,8 +25,8 @@ pub enum Why {
 pub struct Ending {
     /// Its number, from 0, which no other connection has.
     pub number: u64,
-    /// The address that it came from.
-    pub peer: SocketAddr,
+    /// Where it came from.
+    pub whence: Whence,
     /// How many records were answered, with a reply or with none.
     pub records: u64,
     /// How many replies there were, written or not.
@@ -38,7 +40,7 @@ impl Ending {
     pub fn line(&self, alloc: Global) -> Result<String, AllocError>
         ensures { IfOk result (λ text. string_bytes text ≡ ending_line self.now) }
     {
-        let mut line = connection_text(alloc, self.number, self.peer)?;
+        let mut line = connection_text(alloc, self.number, self.whence)?;
         let outcome = outcome_text(alloc, self.records, self.replies, self.why)?;
         line.push_str(outcome.as_str())?;
         Ok(line)
@@ -46,11 +48,27 @@ impl Ending {
 }
 
 // Which connection it is, and where it came from.
-fn connection_text(alloc: Global, number: u64, peer: SocketAddr) -> Result<String, AllocError>
-    ensures { IfOk result (λ text. string_bytes text ≡ connection_text number peer) }
+fn connection_text(alloc: Global, number: u64, whence: Whence) -> Result<String, AllocError>
+    ensures { IfOk result (λ text. string_bytes text ≡ connection_text number whence) }
+{
+    match whence {
+        Whence::Address(peer) => address_text(alloc, number, peer),
+        Whence::Local => local_text(alloc, number),
+    }
+}
+
+fn address_text(alloc: Global, number: u64, peer: SocketAddr) -> Result<String, AllocError>
+    ensures { IfOk result (λ text. string_bytes text ≡ connection_text number (over.Address peer)) }
 {
     let number = number as u128 + 1;
     format!(in alloc; "connection {number} from {peer}: ")
+}
+
+fn local_text(alloc: Global, number: u64) -> Result<String, AllocError>
+    ensures { IfOk result (λ text. string_bytes text ≡ connection_text number over.Local) }
+{
+    let number = number as u128 + 1;
+    format!(in alloc; "connection {number} from local: ")
 }
 
 // What became of it.

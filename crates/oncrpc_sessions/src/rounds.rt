@@ -3,25 +3,31 @@ ghost use Rattle.std.specs.Prelude.{List};
 ghost use Rattle.registry_rows.specs.Rows.{Row};
 ghost use Rattle.oncrpc_sessions.specs.Loops.{Goes};
 
+use crate::bounds::{Bounds, Room, room_within};
 use crate::client::Client;
 use crate::clients::Clients;
 use crate::datagrams::Datagrams;
 use crate::ending::Ending;
-use mio::net::{TcpListener, TcpStream};
-use mio::{Events, Interest, Poll, Token};
+use crate::listeners::{Accepted, Listeners};
+use crate::stream::Stream;
+use crate::unheard::{Place, Unheard, heard};
+use crate::whence::Whence;
+use mio::{Events, Poll, Token};
 use registry_sessions::SessionTable;
 use rpc_directory::Directory;
 use std::alloc::Global;
+use std::fs::Files;
 use std::hash::BuildHasher;
 use std::io;
-use std::io::ErrorKind;
 use std::net::{Net, SocketAddr};
 use std::rt::Clock;
 use std::time::{Duration, Instant};
 
 const LISTENER: Token = Token(usize::MAX);
 
-const DATAGRAMS: Token = Token(usize::MAX - 1);
+const LOCAL_LISTENER: Token = Token(usize::MAX - 1);
+
+const DATAGRAMS: Token = Token(usize::MAX - 2);
 
 /// How many connections are taken at most in one round.
 const MOST_AT_ONCE: u32 = 64;
@@ -29,66 +35,61 @@ const MOST_AT_ONCE: u32 = 64;
 /// For how many seconds a round waits at most where a client is there, and how often idle ones are looked for.
 const LONGEST_WAIT: u64 = 1;
 
-/// What a registry's sockets hold at most.
-#[derive(Clone, Copy, Debug, PartialEq, Eq)]
-pub struct Bounds {
-    /// How many connections may be open at a time. Others wait, and none of them is refused.
-    pub connections: usize,
-    /// How long a connection may stay that makes no call and takes nothing of its replies.
-    pub idle: Duration,
-}
-
-/// A registry's sockets: one that listens, one for datagrams, and those of the clients. Readiness is told once: what a
+/// A registry's sockets: those that listen, one for datagrams, and those of the clients. Readiness is told once: what a
 /// socket was ready for stays noted until a call would block.
 #[derive(Drop)]
 pub struct Sockets {
     alloc: Global,
     poll: Poll,
     events: Events,
-    listener: TcpListener,
+    listeners: Listeners,
     datagrams: Datagrams,
     bounds: Bounds,
     port: u16,
     clients: Clients,
-    may_accept: bool,
-    /// The last connection could not be accepted, as where all descriptors are in use. It is tried again once a client
-    /// has gone or some time has passed.
-    is_short: bool,
     /// When idle clients were looked for last.
     looked: Instant,
 }
 
 impl Sockets {
-    /// Binds both sockets at this address, whose port is 0 for any free one. What becomes of connections is kept for
-    /// `endings` where it `is_told`.
-    pub fn bind<R: Net + Clock>(
+    /// Binds both sockets at this address, whose port is 0 for any free one, and a Unix socket at a path where one is
+    /// given. That is the last, so that a port that is taken leaves the path as it is. What becomes of connections is
+    /// kept for `endings` where it `is_told`. The error says what could not be had, and why.
+    pub fn bind<R: Net + Files + Clock>(
         rt: &R,
         alloc: Global,
         address: SocketAddr,
+        local: Option<&str>,
         bounds: Bounds,
         is_told: bool,
-    ) -> io::Result<Sockets> {
-        let looked = Instant::now(rt)?;
-        let poll = Poll::new(rt)?;
+    ) -> Result<Sockets, Unheard> {
+        let trusts_remote = bounds.trusts_remote;
+        let looked = heard(Place::Waiting, Instant::now(rt))?;
+        let poll = heard(Place::Waiting, Poll::new(rt))?;
         let events = Events::with_capacity(alloc, 1024)?;
-        let mut listener = TcpListener::bind(rt, address)?;
+        let over_tcp = Place::Tcp(address);
+        let mut listeners = heard(over_tcp, Listeners::bind(rt, address, trusts_remote))?;
+        let port = heard(over_tcp, listeners.port())?;
         let mut bound = address;
-        bound.set_port(listener.local_addr()?.port());
-        let mut datagrams = Datagrams::bind(rt, alloc, bound)?;
+        bound.set_port(port);
+        let over_udp = Place::Udp(bound);
+        let mut datagrams = heard(over_udp, Datagrams::bind(rt, alloc, bound, trusts_remote))?;
+        if let Some(path) = local {
+            heard(Place::Local, listeners.listen_at(rt, alloc, path))?;
+        }
         let registry = poll.registry();
-        registry.register(&mut listener, LISTENER, Interest::READABLE)?;
-        datagrams.register(registry, DATAGRAMS)?;
+        let noted = listeners.register(registry, LISTENER, LOCAL_LISTENER);
+        heard(Place::Waiting, noted)?;
+        heard(Place::Waiting, datagrams.register(registry, DATAGRAMS))?;
         Ok(Sockets {
             alloc,
             poll,
             events,
-            listener,
+            listeners,
             datagrams,
             bounds,
-            port: bound.port(),
+            port,
             clients: Clients::new(alloc, is_told),
-            may_accept: true,
-            is_short: false,
             looked,
         })
     }
@@ -107,7 +108,7 @@ impl Sockets {
     /// One round: waits until a socket is ready, at most a second where a client is there, and not at all while
     /// something is left to do. It accepts what waits, answers the datagrams that came, and gives each client turns.
     /// Those go that are done, or were idle for too long. An error is that of the wait or of the clock.
-    pub fn round<R: Clock, S: BuildHasher>(
+    pub fn round<R: Clock + Net, S: BuildHasher>(
         &mut self,
         rt: &R,
         table: &mut SessionTable,
@@ -118,7 +119,7 @@ impl Sockets {
         let now = self.wait(rt, table)?;
         self.note();
         self.accept(now, table);
-        self.datagrams.receive(table, directory);
+        self.datagrams.receive(rt, table, directory);
         self.turns(now, table, directory);
         Ok(())
     }
@@ -134,7 +135,7 @@ impl Sockets {
     fn longest_wait(&self, table: &SessionTable) -> Option<Duration> {
         if self.datagrams.is_busy() || self.clients.is_busy() || self.is_to_accept(table) {
             Some(Duration::ZERO)
-        } else if table.open_count() == 0 && !self.is_short {
+        } else if table.open_count() == 0 && !self.listeners.is_short() {
             None
         } else {
             Some(Duration::from_secs(LONGEST_WAIT))
@@ -145,7 +146,9 @@ impl Sockets {
     fn note(&mut self) {
         for event in &self.events {
             if event.token() == LISTENER {
-                self.may_accept = true;
+                self.listeners.note();
+            } else if event.token() == LOCAL_LISTENER {
+                self.listeners.note_local();
             } else if event.token() == DATAGRAMS {
                 self.datagrams.note();
             } else {
@@ -154,9 +157,15 @@ impl Sockets {
         }
     }
 
-    /// A connection may wait, and there is room for it.
+    /// Where there is room for one more connection.
+    fn room(&self, table: &SessionTable) -> Room {
+        let local = self.clients.local_count();
+        room_within(self.bounds, table.open_count().saturating_sub(local), local)
+    }
+
+    /// A connection may wait for which there is room.
     fn is_to_accept(&self, table: &SessionTable) -> bool {
-        self.may_accept && !self.is_short && table.open_count() < self.bounds.connections
+        self.listeners.is_busy(self.room(table))
     }
 
     /// Accepts what waits, where there is room.
@@ -175,58 +184,49 @@ impl Sockets {
         if !self.is_to_accept(table) {
             return;
         }
-        match self.listener.accept() {
-            Ok((stream, peer)) => self.begin(stream, peer, now, table),
-            Err(fault) => self.not_accepted(fault.kind()),
-        }
-    }
-
-    /// A connection that was not accepted ends nothing.
-    fn not_accepted(&mut self, kind: ErrorKind) {
-        match kind {
-            ErrorKind::WouldBlock => self.may_accept = false,
-            ErrorKind::Interrupted | ErrorKind::ConnectionAborted => {}
-            _ => self.is_short = true,
-        }
+        let room = self.room(table);
+        let Some(accepted) = self.listeners.accept(room) else {
+            return;
+        };
+        self.begin(accepted, now, table);
     }
 
     /// Begins a session for a client.
-    fn begin(&mut self, stream: TcpStream, peer: SocketAddr, now: Instant, table: &mut SessionTable)
+    fn begin(&mut self, accepted: Accepted, now: Instant, table: &mut SessionTable)
         ensures { (rows : List Row) → Goes table.old table.new rows rows }
     {
+        let Accepted {
+            stream,
+            origin,
+            whence,
+        } = accepted;
         let Some((place, stream)) = self.registered(stream) else {
             return;
         };
-        let opened = table.open();
-        self.keep(place, stream, peer, opened.ok(), now);
+        let opened = table.open(origin);
+        self.keep(place, stream, whence, opened.ok(), now);
     }
 
     /// Keeps a client at a place, where its session was begun.
     fn keep(
         &mut self,
         place: usize,
-        stream: TcpStream,
-        peer: SocketAddr,
+        stream: Stream,
+        whence: Whence,
         number: Option<u64>,
         now: Instant,
     ) {
         if let Some(number) = number {
-            let client = Client::new(self.alloc, stream, peer, number, now);
+            let client = Client::new(self.alloc, stream, whence, number, now);
             self.clients.put(place, client);
         }
     }
 
-    /// Has the poll watch a socket, and gives it with the place for its client. None: that could not be done. Replies
-    /// are sent as they are written, without waiting for more.
-    fn registered(&mut self, stream: TcpStream) -> Option<(usize, TcpStream)> {
+    /// Has the poll watch a socket, and gives it with the place for its client. None: that could not be done.
+    fn registered(&mut self, stream: Stream) -> Option<(usize, Stream)> {
         let mut stream = stream;
         let place = self.clients.free_place()?;
-        let _at_once = stream.set_nodelay(true);
-        let both = Interest::READABLE | Interest::WRITABLE;
-        self.poll
-            .registry()
-            .register(&mut stream, Token(place), both)
-            .ok()?;
+        stream.register(self.poll.registry(), Token(place)).ok()?;
         Some((place, stream))
     }
 
@@ -242,7 +242,9 @@ impl Sockets {
         let before = table.open_count();
         self.clients.turns(now, table, directory);
         self.look(now, table);
-        self.is_short &= before <= table.open_count();
+        if table.open_count() < before {
+            self.listeners.try_again();
+        }
     }
 
     /// Some time has passed since idle clients were looked for.
@@ -258,7 +260,7 @@ impl Sockets {
             return;
         }
         self.looked = now;
-        self.is_short = false;
+        self.listeners.try_again();
         self.clients.close_idle(now, self.bounds.idle, table);
     }
 }

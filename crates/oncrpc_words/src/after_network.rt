@@ -59,7 +59,7 @@ that came from PEER has a line on standard error once it has ended:
                                N records were read, and M replies were made
   connection K from PEER: Idle it made no call and took no reply for SECONDS
 and the lines below from 'TooLong at N' on, but for TooManyReads. Where as many
-are open as may be, others wait.
+are open as may be, others wait; the socket of --local has 16 places of its own.
 
 With --count C, after 'listening on 127.0.0.1 PORT', it prints a line for each
 connection K, from 1, once it has ended, and after them a line for each datagram
@@ -78,9 +78,27 @@ What was wrong with a connection ends that connection alone. N in 'at N' is the
 count of the connection's bytes before the place.
 
 The registry begins with its own rows, versions 2, 3 and 4 of program 100000 over
-tcp and udp, and is gone when the program ends. Whoever reaches ADDR can add rows
-and remove them. An ADDR that is not this host's, or a port that is taken over TCP
-or UDP, is the line 'socket fault' on standard error.
+tcp and udp, and is gone when the program ends. Without --insecure a SET or UNSET
+of a caller of another host is AUTH_ERROR 5, AUTH_TOOWEAK. With --count whoever
+reaches the port can add rows and remove them.
+
+With --local the line 'listening on PATH' comes second, and rows of versions 3 and
+4 over local are there. PATH gets mode 0600. A socket there that nobody answers at
+is replaced; any other file stays. PEER of its connections is 'local'. rpcinfo
+without a host, and what registers by libtirpc, want /run/rpcbind.sock.
+
+What cannot be had, or fails, ends it with a line on standard error, with --count
+'socket fault' and else
+  socket fault: ADDR PORT over tcp: WHY
+  socket fault: ADDR PORT over udp: WHY
+  socket fault: PATH: WHY
+  socket fault: waiting: WHY   it cannot wait for clients
+  socket fault: random bytes: WHY
+                               the system gives none, to hash rows behind
+and WHY is 'address in use', 'address not available', 'permission denied', 'no
+such file', 'file exists', 'not a directory', 'name too long', 'read-only
+filesystem', 'no space left', 'quota exceeded', 'error N' with the system's
+number, or 'other error'.
 
 Exit status:
   0  with --count: all connections were served, and all datagrams after them

@@ -33,6 +33,15 @@ pub const LIST: &str = "Prints what files declare, and how many bytes the values
 /// What `records` does.
 pub const RECORDS: &str = "Writes each record of standard input as one fragment";
 
+/// What `messages` does.
+pub const MESSAGES: &str = "Prints the calls and replies of standard input and judges them";
+
+/// The file with the other direction.
+pub const REPLIES: &str = "The file with the other direction of the connection";
+
+/// Messages as JSON.
+pub const JSON_MESSAGES: &str = "Print an object of JSON on a line for each message";
+
 /// What `info` does.
 pub const INFO: &str = "Asks the registry of a host for its rows and prints them";
 
@@ -61,7 +70,7 @@ pub const PORT: &str = "The port to listen at, over TCP and UDP, 0 to 65535; 0 t
 pub const BIND: &str = "The address to listen at, of IPv4; 0.0.0.0 is all of this host";
 
 /// The option for how many connections may be open.
-pub const CONNECTIONS: &str = "How many connections may be open at a time, 1 to 1048576";
+pub const CONNECTIONS: &str = "How many connections over TCP may be open at a time, 1 to 1048576";
 
 /// The option for how long a connection may be idle.
 pub const IDLE: &str =
@@ -69,6 +78,12 @@ pub const IDLE: &str =
 
 /// The option for a line of each connection.
 pub const VERBOSE: &str = "Print a line on standard error for each connection that has ended";
+
+/// The option for changes by callers of other hosts.
+pub const INSECURE: &str = "Take SET and UNSET of callers of other hosts, too";
+
+/// The option for a Unix socket.
+pub const LOCAL: &str = "Serve a Unix socket at PATH, too, for this user and the superuser alone";
 
 /// The option for how many connections are served.
 pub const COUNT: &str =

@@ -11,6 +11,8 @@ pub enum Request {
     Encode(ValueTask),
     /// Print what texts declare.
     Types(TypesTask),
+    /// Print the messages of a stream of records.
+    Messages(MessagesTask),
     /// Print the rows of a registry.
     Info(InfoTask),
     /// Call a procedure of a server, and print its result.
@@ -21,6 +23,17 @@ pub enum Request {
     Serve(ServeTask),
     /// Serve a registry to many clients at once, without an end.
     Keep(KeepTask),
+}
+
+/// Messages to be read from the input.
+#[derive(PartialEq, Eq, Drop)]
+pub struct MessagesTask {
+    /// The texts that declare programs.
+    pub types: Texts,
+    /// The file with the other direction, where it is given.
+    pub replies: Option<String>,
+    /// Whether each message is a line of JSON.
+    pub json: bool,
 }
 
 /// A registry that is asked for its rows.
@@ -123,10 +136,14 @@ pub struct KeepTask {
     pub address: Ipv4Addr,
     /// The port to listen at, over TCP and over UDP; 0 takes one that is free over TCP.
     pub port: u16,
-    /// How many connections may be open at a time, 1 to 1048576.
+    /// How many connections over TCP may be open at a time, 1 to 1048576.
     pub connections: u32,
     /// For how many seconds a connection may make no call and take nothing of its replies, 1 to 4294967295.
     pub idle: u32,
     /// Whether each connection has a line on standard error once it has ended.
     pub verbose: bool,
+    /// Callers of other hosts may change rows.
+    pub insecure: bool,
+    /// The path of a Unix socket to listen at, too.
+    pub local: Option<String>,
 }

@@ -86,6 +86,15 @@ pub const OF_RECORDS: [Word; 2] = [
     Word::Flag("hex", help::HEX),
 ];
 
+/// The words of `messages`.
+pub const OF_MESSAGES: [Word; 5] = [
+    Word::Repeated("types", "FILE", help::TYPES, Taken::Text, &[]),
+    Word::Beside("dialect", "DIALECT", help::DIALECT, Taken::Dialect, "types"),
+    Word::Repeated("define", "NAME", help::DEFINE, Taken::Text, &["dialect"]),
+    Word::Optional("replies", "FILE", help::REPLIES, Taken::Text, &[]),
+    Word::Flag("json", help::JSON_MESSAGES),
+];
+
 /// The words of `info`.
 pub const OF_INFO: [Word; 5] = [
     Word::Placed("host", "HOST", help::HOST, Taken::Text),
@@ -132,7 +141,7 @@ pub const OF_PING: [Word; 9] = [
 ];
 
 /// The words of `serve`.
-pub const OF_SERVE: [Word; 7] = [
+pub const OF_SERVE: [Word; 9] = [
     Word::Required("port", "N", help::PORT, Taken::Port),
     Word::Without(
         "bind",
@@ -159,6 +168,8 @@ pub const OF_SERVE: [Word; 7] = [
         "count",
     ),
     Word::FlagWithout("verbose", help::VERBOSE, "count"),
+    Word::FlagWithout("insecure", help::INSECURE, "count"),
+    Word::Without("local", "PATH", help::LOCAL, Taken::Text, &[], "count"),
     Word::Optional("count", "C", help::COUNT, Taken::Number, &[]),
     Word::Beside("datagrams", "D", help::DATAGRAMS, Taken::Number, "count"),
 ];

@@ -6,6 +6,7 @@ use super::calls::{call_task, ping_task};
 use super::command::{BYTES, CONNECTIONS, DEPTH, IDLE, VERS, command};
 use super::fault::{Misfit, WordsFault, fault_of, misfit_fault, no_memory};
 use super::request::{InfoTask, KeepTask, Request, ServeTask};
+use super::watching::messages_task;
 use clap::{ArgMatches, Error};
 use oncrpc_answers::{Dialect, JsonTask, RecordsTask, Task, Texts, TypesTask, ValueTask};
 use std::alloc::{AllocError, Global};
@@ -56,7 +57,7 @@ fn first_request(alloc: Global) -> Result<Request, AllocError>
 fn request_of(alloc: Global, words: &[String]) -> Result<Result<Request, Misfit>, Error> {
     let matches = command(alloc)?.try_get_matches_from(words)?;
     match matches.subcommand() {
-        Some(("serve", options)) => Ok(served(options).ok_or(Misfit::Address)),
+        Some(("serve", options)) => Ok(served(alloc, options)?.ok_or(Misfit::Address)),
         Some((_, options)) if !defines_names(options) => Ok(Err(Misfit::Name)),
         Some(("call", options)) => match call_task(alloc, options)? {
             Some(task) => Ok(Ok(Request::Call(task))),
@@ -83,6 +84,7 @@ fn asked(alloc: Global, name: &str, options: &ArgMatches<'_>) -> Result<Request,
         "show" => Ok(Request::Offline(show_task(alloc, options)?)),
         "encode" => Ok(Request::Encode(value_task(alloc, options)?)),
         "types" => Ok(Request::Types(types_task(alloc, options)?)),
+        "messages" => Ok(Request::Messages(messages_task(alloc, options)?)),
         "info" => Ok(Request::Info(info_task(alloc, options)?)),
         "ping" => Ok(Request::Ping(ping_task(alloc, options)?)),
         _ => Ok(Request::Offline(Task::Records(records_task(options)))),
@@ -90,10 +92,13 @@ fn asked(alloc: Global, name: &str, options: &ArgMatches<'_>) -> Result<Request,
 }
 
 // With a count connections are served one after another, and without one all at once.
-fn served(options: &ArgMatches<'_>) -> Option<Request> {
-    match options.get_one::<u32>("count") {
-        Some(count) => Some(Request::Serve(serve_task(options, count))),
-        None => Some(Request::Keep(keep_task(options)?)),
+fn served(alloc: Global, options: &ArgMatches<'_>) -> Result<Option<Request>, AllocError> {
+    if let Some(count) = options.get_one::<u32>("count") {
+        return Ok(Some(Request::Serve(serve_task(options, count))));
+    }
+    match keep_task(alloc, options)? {
+        Some(task) => Ok(Some(Request::Keep(task))),
+        None => Ok(None),
     }
 }
 
@@ -184,12 +189,25 @@ fn serve_task(options: &ArgMatches<'_>, count: u32) -> ServeTask {
     }
 }
 
-fn keep_task(options: &ArgMatches<'_>) -> Option<KeepTask> {
-    Some(KeepTask {
-        address: options.get_one::<Ipv4Addr>("bind")?,
+// The path of a Unix socket, where one is given.
+fn path(alloc: Global, options: &ArgMatches<'_>) -> Result<Option<String>, AllocError> {
+    match options.get_str("local") {
+        Some(path) => Ok(Some(String::from_str(alloc, path)?)),
+        None => Ok(None),
+    }
+}
+
+fn keep_task(alloc: Global, options: &ArgMatches<'_>) -> Result<Option<KeepTask>, AllocError> {
+    let Some(address) = options.get_one::<Ipv4Addr>("bind") else {
+        return Ok(None);
+    };
+    Ok(Some(KeepTask {
+        address,
         port: port(options),
         connections: number(options, "connections", CONNECTIONS),
         idle: number(options, "idle", IDLE),
         verbose: options.get_flag("verbose"),
-    })
+        insecure: options.get_flag("insecure"),
+        local: path(alloc, options)?,
+    }))
 }

@@ -13,6 +13,8 @@ pub enum Transport {
     Tcp,
     /// UDP over IPv4, netid `udp`: a reply is one datagram of at most 65507 bytes.
     Udp,
+    /// A stream over a Unix socket of this host, netid `local`.
+    Local,
 }
 
 impl Transport {
@@ -23,6 +25,7 @@ impl Transport {
         match self {
             Transport::Tcp => b"tcp",
             Transport::Udp => b"udp",
+            Transport::Local => b"local",
         }
     }
 
@@ -33,6 +36,7 @@ impl Transport {
         match self {
             Transport::Tcp => true,
             Transport::Udp => count <= MOST_DATAGRAM,
+            Transport::Local => true,
         }
     }
 }

@@ -3,58 +3,69 @@ use Rattle.std.proofs.Common.{◌≡◌, ℕ, Bool, if◌then◌else◌, List, [
 use Rattle.std.proofs.Common.{refl, sym, ap, ◌∙◌, subst, append_assoc}
 use Rattle.std.proofs.lemmas.Bool.{eq-eqb}
 use Rattle.registry_rows.specs.Rows.{Row}
-use Rattle.registry_rows.specs.Ports.{tcp}
+use Rattle.registry_answer.specs.Views.{netid_of}
+use Rattle.registry_callers.specs.declared.callers.Peer.TheVariants as peer
+use Rattle.registry_sessions.specs.declared.origin.Origin.{Origin}
+use Rattle.registry_callers.specs.Laws.{LocalIsAsEver}
 use Rattle.rpc_engine.specs.Run.{Run, listed}
 use Rattle.registry_sessions.specs.Events.{Event, Record, brought, records_of}
 use Rattle.registry_sessions.specs.Interleaved.{Interleaves, MergedRun, replies_of}
 use Rattle.registry_sessions.specs.Progress.{HasDone, Progress, Sessions}
-use Rattle.registry_sessions.specs.Laws.{AloneServes, StepsJoin}
+use Rattle.registry_sessions.specs.Laws.{AloneServes, ArePlain, StepsJoin}
 use Rattle.registry_sessions.proofs.Events.{no_records}
 use Rattle.registry_sessions.proofs.One.{all_of}
 
--- along the records of one connection the run is that of a stream
-run_alone : (rows new : List Row) (i : ℕ) (rs : List (List ℕ)) (refusals : List Bool)
-    (answers : List (Option (List ℕ))) → MergedRun rows (map (Record i) rs) refusals new answers
-    → Run rows tcp rs refusals new (replies_of i (map (Record i) rs) answers)
-run_alone rows new i [] [] [] same = (same, refl)
-run_alone rows new i (r ∷ rs) (y ∷ ys) (s ∷ ss) (mid, (answer, run)) = (
+-- along the records of one connection of this host, which all have the plain answer, the run is that of a stream
+run_alone : LocalIsAsEver → (whence : ℕ → Origin) (rows new : List Row) (i : ℕ) → (whence i).caller.peer ≡ peer.Local
+    → (rs : List (List ℕ)) (refusals : List Bool) (answers : List (Option (List ℕ)))
+    → (r : MergedRun whence rows (map (Record i) rs) refusals new answers)
+    → ArePlain whence rows (map (Record i) rs) refusals new answers r
+    → Run rows (netid_of (whence i).transport) rs refusals new (replies_of i (map (Record i) rs) answers)
+run_alone law whence rows new i near [] [] [] same plain = (same, refl)
+run_alone law whence rows new i near (r ∷ rs) (y ∷ ys) (s ∷ ss) (mid, (answer, run)) (never, unplaced, plain) = (
   mid,
   (
     s,
     (
       replies_of i (map (Record i) rs) ss,
       (
-        answer,
-        run_alone mid new i rs ys ss run,
+        law (whence i).caller rows mid (netid_of (whence i).transport) r y s near never unplaced answer,
+        run_alone law whence mid new i near rs ys ss run plain,
         ap (λ b. (if b then listed s else []) ++ replies_of i (map (Record i) rs) ss) (eq-eqb i i refl),
       ),
     ),
   ),
 )
-run_alone rows new i [] (y ∷ ys) ss p = absurd p
-run_alone rows new i [] [] (s ∷ ss) p = absurd p
-run_alone rows new i (r ∷ rs) [] ss p = absurd p
-run_alone rows new i (r ∷ rs) (y ∷ ys) [] p = absurd p
+run_alone law whence rows new i near [] (y ∷ ys) ss p plain = absurd p
+run_alone law whence rows new i near [] [] (s ∷ ss) p plain = absurd p
+run_alone law whence rows new i near (r ∷ rs) [] ss p plain = absurd p
+run_alone law whence rows new i near (r ∷ rs) (y ∷ ys) [] p plain = absurd p
 
-pub alone_serves : AloneServes
-alone_serves rows new events open_at sent i left left' taken taken' served w alone whole read end wrote count = record {
-  input = brought i events;
-  rs = records_of i w.arrivals;
-  refusals = w.refusals;
-  replies = replies_of i w.arrivals w.answers;
-  read = read;
-  end = end;
-  whole = whole;
-  run = subst (λ x. Run rows tcp (records_of i w.arrivals) w.refusals new (replies_of i x w.answers)) (sym all)
-      (run_alone rows new i (records_of i w.arrivals) w.refusals w.answers
-      (subst (λ x. MergedRun rows x w.refusals new w.answers) all w.run));
-  written = wrote;
-  counted = count;
-}
+pub alone_serves : LocalIsAsEver → AloneServes
+alone_serves law rows new events open_at sent i left left' taken taken' served w alone near plain whole read end
+    wrote count = record {
+      input = brought i events;
+      rs = records_of i w.arrivals;
+      refusals = w.refusals;
+      replies = replies_of i w.arrivals w.answers;
+      read = read;
+      end = end;
+      whole = whole;
+      run = subst (λ x. Run rows (netid_of (w.whence i).transport) (records_of i w.arrivals) w.refusals new
+          (replies_of i x w.answers)) (sym all)
+          (run_alone law w.whence rows new i near (records_of i w.arrivals) w.refusals w.answers moved.0 moved.1);
+      written = wrote;
+      counted = count;
+    }
   where
     all : w.arrivals ≡ map (Record i) (records_of i w.arrivals)
     all = all_of i w.arrivals (λ j apart. no_records j events w.arrivals w.order.all (alone.others j apart))
         (w.order.all.datagrams ∙ alone.no_datagrams)
+
+    moved : (r : MergedRun w.whence rows (map (Record i) (records_of i w.arrivals)) w.refusals new w.answers)
+        × ArePlain w.whence rows (map (Record i) (records_of i w.arrivals)) w.refusals new w.answers r
+    moved = subst (λ x. (r : MergedRun w.whence rows x w.refusals new w.answers)
+        × ArePlain w.whence rows x w.refusals new w.answers r) all (w.run, plain)
 
 pub interleaves : (rows new : List Row) (events : List Event) (open_at : Sessions) (next : ℕ) (sent : List (List ℕ))
     → Progress rows events new open_at next sent → Interleaves rows events new open_at sent
@@ -62,6 +73,8 @@ interleaves rows new events open_at next sent p = record {
   arrivals = p.arrivals;
   refusals = p.refusals;
   answers = p.answers;
+  whence = p.whence;
+  origins = p.origins;
   order = p.order;
   run = p.run;
   opened = p.opened;

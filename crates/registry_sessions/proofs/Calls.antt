@@ -5,8 +5,12 @@ use Rattle.std.proofs.Common.{IfSome, is_some, length, arith, true≢false, true
 use Rattle.std.proofs.lemmas.List.{append-nil}
 use Rattle.registry_rows.specs.Rows.{Row}
 use Rattle.registry_rows.specs.Ports.{udp}
-use Rattle.registry_answer.specs.Answer.{Answer}
-use Rattle.registry_answer.specs.Answering.{AppendsAnswer}
+use Rattle.registry_callers.specs.declared.callers.Caller.{Caller}
+use Rattle.registry_callers.specs.declared.callers.Peer.TheVariants as peer
+use Rattle.registry_answer.specs.declared.transport.Transport.TheVariants as transport
+use Rattle.registry_sessions.specs.declared.origin.Origin.{Origin}
+use Rattle.registry_callers.specs.Appending.{AppendsFrom}
+use Rattle.registry_callers.specs.From.{AnswerFrom}
 use Rattle.registry_answer.specs.declared.answering.Appended.{Appended}
 use Rattle.registry_answer.specs.declared.answering.Appended.TheVariants as appended
 use Rattle.rpc_engine.specs.Run.{listed}
@@ -15,7 +19,7 @@ use Rattle.registry_sessions.specs.declared.fault.Taken.{Taken}
 use Rattle.registry_sessions.specs.declared.session.Session.{Session}
 use Rattle.registry_sessions.specs.declared.table.SessionTable.{SessionTable}
 use Rattle.registry_sessions.specs.Represents as session
-use Rattle.registry_sessions.specs.Represents.{HasRead, Holds, TakesIn, Concludes, output_of}
+use Rattle.registry_sessions.specs.Represents.{HasRead, Holds, TakesIn, Concludes, output_of, origin_of}
 use Rattle.registry_sessions.specs.Events.{Event, Opens, Took, Ends, Came, Arrival, HaveArrived}
 use Rattle.registry_sessions.specs.Progress.{Sessions, Progress, HasDone, Proceeds, Starts, Steps, put}
 use Rattle.registry_sessions.specs.Progress.{SameLimits, session_at, next_of, happened, said_of}
@@ -33,12 +37,21 @@ Goes old g later mid after more said = (rows : List Row) (events : List Event) (
 abbrev pub Updated : SessionTable → Sessions → ℕ → Option Session → Type 0
 Updated old g i w = (q : ℕ) → g q ≡ cond (nat_eq i q) w (session_at old q)
 
+-- an origin, for numbers that no connection has
+nowhere : Origin
+nowhere = record {
+  caller = record { peer = peer.Local; host = None; trusts_remote = false };
+  transport = transport.Tcp;
+}
+
 -- no connection was there yet
 pub begins : (g : Sessions) → ((j : ℕ) → g j ≡ None) → (rows : List Row) → Progress rows [] rows g 0 []
 begins g none rows = record {
   arrivals = [];
   refusals = [];
   answers = [];
+  whence = λ j. nowhere;
+  origins = tt;
   order = record {
     all = record { records = λ j. nothing; datagrams = refl };
     each = λ front rest e. by front rest e;
@@ -48,7 +61,9 @@ begins g none rows = record {
   few = λ j. omega arith;
   each = λ j s at. absurd (true≢false (ap is_some (sym at ∙ none j)));
   below = λ j s at. absurd (true≢false (ap is_some (sym at ∙ none j)));
+  came = λ j s at. absurd (true≢false (ap is_some (sym at ∙ none j)));
   fresh = λ j late. (refl, refl);
+  unopened = λ j late. tt;
   datagrams = refl;
 }
   where
@@ -86,14 +101,16 @@ module _ (old : SessionTable) (g : Sessions) (i : ℕ) (s t : Session) (at : ses
       (end_proceeds rows mid events (session_at old) (next_of old) sent p i s t at result h out)
 
 -- a connection begins
-pub opens : (old : SessionTable) (g : Sessions) (s : Session) → Updated old g (next_of old) (Some s) → HasRead s [] []
-    → Holds s [] 0 → (mid : List Row) → Goes old g (next_of old + 1) mid mid (Opens (next_of old) ∷ []) []
-opens old g s updated read held mid rows events sent p =
-    goes_on old g (next_of old) (Some s) updated (next_of old + 1) rows mid (events ++ Opens (next_of old) ∷ [])
-    (sent ++ [])
-    (subst (λ x. Progress rows (events ++ Opens (next_of old) ∷ []) mid (put (session_at old) (next_of old) (Some s))
+pub opens : (old : SessionTable) (g : Sessions) (s : Session) (origin : Origin)
+    → Updated old g (next_of old) (Some s) → origin_of s ≡ origin → HasRead s [] [] → Holds s [] 0 → (mid : List Row)
+    → Goes old g (next_of old + 1) mid mid (Opens (next_of old) origin ∷ []) []
+opens old g s origin updated of read held mid rows events sent p =
+    goes_on old g (next_of old) (Some s) updated (next_of old + 1) rows mid
+    (events ++ Opens (next_of old) origin ∷ []) (sent ++ [])
+    (subst (λ x. Progress rows (events ++ Opens (next_of old) origin ∷ []) mid (put (session_at old) (next_of old)
+    (Some s))
     (next_of old + 1) x) (sym (append-nil sent))
-    (progress_opens rows mid events (session_at old) (next_of old) sent s p read held))
+    (progress_opens rows mid events (session_at old) (next_of old) sent s origin p of read held))
 
 -- a connection ends
 ends : (old : SessionTable) (g : Sessions) (i : ℕ) (s : Session) → session_at old i ≡ Some s → Updated old g i None
@@ -110,16 +127,16 @@ closes old g i (Some s) e updated = λ mid. ends old g i s (sym e) updated mid
 closes old g i None e updated = tt
 
 -- a datagram comes
-pub receives : (table : SessionTable) (mid after : List Row) (datagram out : List ℕ) (result : Appended)
-    → AppendsAnswer mid udp datagram [] after out result
-    → Proceeds table table mid after (Came datagram ∷ []) (listed (said_of result out))
-receives table mid after datagram out appended.Nothing h rows events sent p =
-    progress_receives rows mid after events (session_at table) (next_of table) sent datagram false None p h.0
-receives table mid after datagram out appended.Reply h rows events sent p =
-    progress_receives rows mid after events (session_at table) (next_of table) sent datagram false (Some out) p
-    (subst (λ x. Answer mid udp datagram false after (Some x)) (sym h.1.1.added) h.1.0)
-receives table mid after datagram out (appended.OutOfMemory xid) h rows events sent p =
-    progress_receives rows mid after events (session_at table) (next_of table) sent datagram true _ p h.0
+pub receives : (table : SessionTable) (caller : Caller) (mid after : List Row) (datagram out : List ℕ)
+    (result : Appended) → AppendsFrom caller mid udp datagram [] after out result
+    → Proceeds table table mid after (Came caller datagram ∷ []) (listed (said_of result out))
+receives table caller mid after datagram out appended.Nothing h rows events sent p =
+    progress_receives rows mid after events (session_at table) (next_of table) sent caller datagram false None p h.0
+receives table caller mid after datagram out appended.Reply h rows events sent p =
+    progress_receives rows mid after events (session_at table) (next_of table) sent caller datagram false (Some out) p
+    (subst (λ x. AnswerFrom caller mid udp datagram false after (Some x)) (sym h.1.1.added) h.1.0)
+receives table caller mid after datagram out (appended.OutOfMemory xid) h rows events sent p =
+    progress_receives rows mid after events (session_at table) (next_of table) sent caller datagram true _ p h.0
 
 -- ---- what became of the sessions
 
@@ -136,12 +153,15 @@ steps_at old new i s t at updated limits step h = record {
   limits = limits;
 }
 
-pub starts : (old new : SessionTable) (i : ℕ) (s : Session) → Updated old (session_at new) i (Some s)
-    → SameLimits old new → HasRead s [] [] → Holds s [] 0 → Starts old new i
-starts old new i s updated limits read held = record {
+pub starts : (old new : SessionTable) (i : ℕ) (s : Session) (origin : Origin) → i ≡ next_of old
+    → Updated old (session_at new) i (Some s) → SameLimits old new → origin_of s ≡ origin → HasRead s [] []
+    → Holds s [] 0 → Starts old new i origin
+starts old new i s origin number updated limits of read held = record {
+  number = number;
   session = s;
   is = put_here (session_at old) (session_at new) i (Some s) updated;
   others = put_others (session_at old) (session_at new) i (Some s) updated;
+  of = of;
   reads = read;
   holds = held;
   limits = limits;

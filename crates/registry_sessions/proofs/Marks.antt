@@ -5,9 +5,11 @@ use Rattle.std.proofs.Common.{Result, Ok, Err, true≢false, is_ok, is_err, cond
 use Rattle.std.proofs.lemmas.List.{append-nil, set-append_right}
 use Rattle.registry_rows.specs.Rows.{Row}
 use Rattle.rpc_record.specs.Marked.{fragment, FragmentLength}
-use Rattle.registry_answer.specs.Answer.{Answer}
-use Rattle.rpc_message.specs.Message.{CaseView}
-use Rattle.registry_answer.proofs.Cases.{Decided, decided}
+use Rattle.registry_answer.specs.Views.{netid_of}
+use Rattle.registry_callers.specs.declared.callers.Caller.{Caller}
+use Rattle.registry_sessions.specs.declared.origin.Origin.{Origin}
+use Rattle.registry_callers.specs.From.{AnswerFrom}
+use Rattle.registry_callers.specs.Laws.{RefusedRowsStay}
 use Rattle.rpc_engine.proofs.Sessions.{front_set}
 use Rattle.registry_sessions.specs.Private.Replying.{PushesReply}
 
@@ -44,21 +46,21 @@ marks_set old front reply h n e f g =
     ∙ ap (λ l. old ++ l) (front_set front reply h f g)
 
 -- where memory was refused the rows stay
-pub refused_stays : (rows new : List Row) (netid message bytes : List ℕ)
-    → Answer rows netid message true new (Some bytes) → new ≡ rows
-refused_stays rows new netid message bytes a = by a.case (decided rows netid a.answers)
-  where
-    by : (k : CaseView) → Decided rows netid k true new a.said → new ≡ rows
-    by k h = h.0
+pub refused_stays : RefusedRowsStay → (caller : Caller) (rows new : List Row) (netid message bytes : List ℕ)
+    → AnswerFrom caller rows netid message true new (Some bytes) → new ≡ rows
+refused_stays law caller rows new netid message bytes a = law caller rows new netid message (Some bytes) a
 
 -- a reply behind four bytes for its header
-pub pushes_reply : FragmentLength → (rows new : List Row) (netid message old front reply before out : List ℕ)
-    (refused : Bool) (n : ℕ) → Answer rows netid message refused new (Some reply) → before ≡ old ++ (front ++ reply)
+pub pushes_reply : FragmentLength → (origin : Origin) (rows new : List Row)
+    (message old front reply before out : List ℕ)
+    (refused : Bool) (n : ℕ)
+    → AnswerFrom origin.caller rows (netid_of origin.transport) message refused new (Some reply)
+    → before ≡ old ++ (front ++ reply)
     → length front ≡ 4 → length reply ≤ 16777240
     → length old ≡ n
     → ((a f r : List ℕ) → length a ≡ n → length f ≡ 4 → before ≡ a ++ (f ++ r) → out ≡ a ++ fragment true r)
-    → PushesReply rows netid message new old out
-pushes_reply law rows new netid message old front reply before out refused n a e four short len marks = record {
+    → PushesReply origin rows message new old out
+pushes_reply law origin rows new message old front reply before out refused n a e four short len marks = record {
   refused = refused;
   sent = Some reply;
   answer = a;

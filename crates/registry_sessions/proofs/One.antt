@@ -10,6 +10,7 @@ use Rattle.rpc_record.specs.Marked.{Longest}
 use Rattle.rpc_record.proofs.Exact.{Longest-same}
 use Rattle.rpc_record.proofs.Places.{Longest-whole}
 use Rattle.rpc_engine.specs.Served.{most_record}
+use Rattle.registry_callers.specs.declared.callers.Caller.{Caller}
 use Rattle.registry_sessions.specs.Events.{Event, Opens, Brings, Drops, Took, Ends, Came, Arrival, Record, Datagram}
 use Rattle.registry_sessions.specs.Events.{HaveArrived, InOrder, OneOrder, brought, bytes_in, records_of, record_in}
 use Rattle.registry_sessions.specs.Events.{arrived_in, datagram_in}
@@ -54,13 +55,13 @@ not_none j m xs e = absurd (omega (arith, ap length (own_first j m xs), ap lengt
 empty : (xs : List Arrival) → ((j : ℕ) → records_of j xs ≡ []) → flat_map arrived_in xs ≡ [] → xs ≡ []
 empty [] r d = refl
 empty (Record j m ∷ xs) r d = absurd (not_none j m xs (r j))
-empty (Datagram m ∷ xs) r d = absurd (omega (arith, ap length d))
+empty (Datagram c m ∷ xs) r d = absurd (omega (arith, ap length d))
 
 -- records of one connection
 pub all_of : (i : ℕ) (xs : List Arrival) → ((j : ℕ) → j ≢ i → records_of j xs ≡ []) → flat_map arrived_in xs ≡ []
     → xs ≡ map (Record i) (records_of i xs)
 all_of i [] r d = refl
-all_of i (Datagram m ∷ xs) r d = absurd (omega (arith, ap length d))
+all_of i (Datagram c m ∷ xs) r d = absurd (omega (arith, ap length d))
 all_of i (Record j m ∷ xs) r d = by (all_of i xs rest d) (nat_eq i j) (eqb-true i j) (eqb-false i j)
   where
     rest : (k : ℕ) → k ≢ i → records_of k xs ≡ []
@@ -71,11 +72,15 @@ all_of i (Record j m ∷ xs) r d = by (all_of i xs rest d) (nat_eq i j) (eqb-tru
     by all true same apart = ap (λ k. Record k m ∷ xs) (sym (same refl)) ∙ ap (λ l. Record i m ∷ l) all
     by all false same apart = absurd (not_none j m xs (r j (λ e. apart refl (sym e))))
 
+-- a caller and what it sent
+abbrev sent_by : Caller × List ℕ → Arrival
+sent_by d = Datagram d.0 d.1
+
 -- datagrams alone
-all_datagrams : (xs : List Arrival) → ((j : ℕ) → records_of j xs ≡ []) → xs ≡ map Datagram (flat_map arrived_in xs)
+all_datagrams : (xs : List Arrival) → ((j : ℕ) → records_of j xs ≡ []) → xs ≡ map sent_by (flat_map arrived_in xs)
 all_datagrams [] r = refl
 all_datagrams (Record j m ∷ xs) r = absurd (not_none j m xs (r j))
-all_datagrams (Datagram m ∷ xs) r = ap (λ l. Datagram m ∷ l) (all_datagrams xs r)
+all_datagrams (Datagram c m ∷ xs) r = ap (λ l. Datagram c m ∷ l) (all_datagrams xs r)
 
 records_join : (j : ℕ) (xs ys : List Arrival) → records_of j (xs ++ ys) ≡ records_of j xs ++ records_of j ys
 records_join j xs ys = flat_map-append (record_in j) xs ys
@@ -170,13 +175,15 @@ one_arrival front (Brings i bytes) f h x y k l =
     own = same_rest (records_of i f) (records_of i x) (records_of i y) (sym (records_join i f x)
         ∙ Longest-same most_record (records_of i (f ++ x)) (records_of i (f ++ y))
         (brought i (front ++ Brings i bytes ∷ [])) (k.records i) (l.records i) ∙ records_join i f y)
-one_arrival front (Came bytes) f h x y k l =
-    all_datagrams x (λ j. no_new_records front (Came bytes) f h x k j refl)
-    ∙ ap (map Datagram) (new_datagrams front (Came bytes) f h x k ∙ sym (new_datagrams front (Came bytes) f h y l))
-    ∙ sym (all_datagrams y (λ j. no_new_records front (Came bytes) f h y l j refl))
-one_arrival front (Opens i) f h x y k l =
-    empty x (λ j. no_new_records front (Opens i) f h x k j refl) (new_datagrams front (Opens i) f h x k)
-    ∙ sym (empty y (λ j. no_new_records front (Opens i) f h y l j refl) (new_datagrams front (Opens i) f h y l))
+one_arrival front (Came caller bytes) f h x y k l =
+    all_datagrams x (λ j. no_new_records front (Came caller bytes) f h x k j refl)
+    ∙ ap (map sent_by) (new_datagrams front (Came caller bytes) f h x k ∙ sym (new_datagrams front
+    (Came caller bytes) f h y l))
+    ∙ sym (all_datagrams y (λ j. no_new_records front (Came caller bytes) f h y l j refl))
+one_arrival front (Opens i origin) f h x y k l =
+    empty x (λ j. no_new_records front (Opens i origin) f h x k j refl) (new_datagrams front (Opens i origin) f h x k)
+    ∙ sym (empty y (λ j. no_new_records front (Opens i origin) f h y l j refl) (new_datagrams front
+    (Opens i origin) f h y l))
 one_arrival front (Drops i bytes) f h x y k l =
     empty x (λ j. no_new_records front (Drops i bytes) f h x k j refl) (new_datagrams front (Drops i bytes) f h x k)
     ∙ sym (empty y (λ j. no_new_records front (Drops i bytes) f h y l j refl)

@@ -6,13 +6,15 @@ use Rattle.std.proofs.Math.Seq.{take-length}
 use Rattle.std.specs.List.{copy_within}
 use Rattle.rpc_record.specs.Marked.{normal}
 use Rattle.registry_sessions.specs.declared.session.Session.{Session}
-use Rattle.registry_sessions.specs.Represents.{output_of, Took}
+use Rattle.registry_sessions.specs.Represents.{output_of, origin_of, Took}
 
 -- a session with the same reader, whose output lost its first n bytes
 pub took_by : (old new : Session) (n : ℕ) → new.records ≡ old.records → new.fault ≡ old.fault
-    → n ≤ length (output_of old) → output_of new ≡ drop n (output_of old) → Took old new n
-took_by old new n same fault within out = record {
+    → origin_of new ≡ origin_of old → n ≤ length (output_of old) → output_of new ≡ drop n (output_of old)
+    → Took old new n
+took_by old new n same fault caller within out = record {
   same_fault = fault;
+  same_origin = caller;
   reads = λ bytes rs h. record {
     sound = fault ∙ h.sound;
     taking = rw same h.taking;

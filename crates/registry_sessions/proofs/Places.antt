@@ -19,7 +19,7 @@ use Rattle.registry_sessions.specs.declared.fault.Taken.{Taken}
 use Rattle.registry_sessions.specs.declared.fault.Taken.TheVariants as taken
 use Rattle.registry_sessions.specs.declared.session.Session.{Session}
 use Rattle.registry_sessions.specs.Represents as session
-use Rattle.registry_sessions.specs.Represents.{HasRead, Holds, output_of, TakesIn}
+use Rattle.registry_sessions.specs.Represents.{HasRead, Holds, origin_of, output_of, TakesIn}
 use Rattle.registry_sessions.specs.Events.{Event, Brings, Drops, brought, written, records_of}
 use Rattle.registry_sessions.specs.Interleaved.{FlawedIn, replies_of}
 use Rattle.registry_sessions.specs.Progress.{Sessions, put, Progress, StandsFor, happened}
@@ -91,13 +91,15 @@ module _ (rows mid : List Row) (events : List Event) (open_at : Sessions) (next 
       none_sent after (Brings i piece ∷ [])
       (subst (λ x. Progress rows (events ++ Brings i piece ∷ []) x (put open_at i (Some s)) next sent) (sym h.taken.0)
       (progress_takes rows mid events open_at next sent p i old s piece at
-      (sound taken.More (Ok taken.More) old.fault refl (λ f e. (h.stays.broken f e).0)) h.taken.1 h.taken.2))
+      (sound taken.More (Ok taken.More) old.fault refl (λ f e. (h.stays.broken f e).0)) h.same_origin h.taken.1
+      h.taken.2))
   take_proceeds after piece (Ok (taken.Answered used)) h =
       none_sent after (Brings i (take used piece) ∷ [])
       (progress_answers rows mid events open_at next sent p i after old s (take used piece) at
-      (sound (taken.Answered used) (Ok (taken.Answered used)) old.fault refl (λ f e. (h.stays.broken f e).0)) h.taken.2)
+      (sound (taken.Answered used) (Ok (taken.Answered used)) old.fault refl (λ f e.
+      (h.stays.broken f e).0)) h.same_origin h.taken.2)
   take_proceeds after piece (Ok taken.Full) h =
-      same_after after h.taken.0 (progress_same rows mid events open_at next sent i old s p at
+      same_after after h.taken.0 (progress_same rows mid events open_at next sent i old s p at h.same_origin
       (subst (λ x. StandsFor x (brought i events) (records_of i p.arrivals) (replies_of i p.arrivals p.answers)
       (written i events)) (sym h.taken.1) (p.each i old at)))
   take_proceeds after piece (Err (fault.Record (flaw.TooLong place))) h =
@@ -105,6 +107,7 @@ module _ (rows mid : List Row) (events : List Event) (open_at : Sessions) (next 
       let q = long_by old.fault refl in
       changed after piece (Err f) f refl h.fault h.stays (Brings i piece ∷ [])
       (progress_flawed rows mid events open_at next sent p i old s f piece at h.fault.broken h.fault.same_output
+      h.same_origin
       (Longest-long most_record place (records_of i p.arrivals) (brought i events ++ piece) q) q)
     where
       long_by : (o : Option SessionFault) → old.fault ≡ o
@@ -117,6 +120,7 @@ module _ (rows mid : List Row) (events : List Event) (open_at : Sessions) (next 
       let f = fault.Record (flaw.Truncated place) in
       changed after piece (Err f) f refl h.fault h.stays (Drops i piece ∷ [])
       (progress_drops rows mid events open_at next sent p i old s f piece at h.fault.broken h.fault.same_output
+      h.same_origin
       (cut_by old.fault refl))
     where
       cut_by : (o : Option SessionFault) → old.fault ≡ o
@@ -130,7 +134,7 @@ module _ (rows mid : List Row) (events : List Event) (open_at : Sessions) (next 
   take_proceeds after piece (Err fault.NoMemory) h =
       changed after piece (Err fault.NoMemory) fault.NoMemory refl h.fault h.stays (Drops i piece ∷ [])
       (progress_drops rows mid events open_at next sent p i old s fault.NoMemory piece at h.fault.broken
-      h.fault.same_output tt)
+      h.fault.same_output h.same_origin tt)
   take_proceeds after piece (Err (fault.Record flaw.Read)) h =
       absurd (other after piece flaw.Read h (λ rs n bytes k. k) (λ rs bytes k. k))
   take_proceeds after piece (Err (fault.Record (flaw.Write w))) h =
@@ -147,8 +151,12 @@ pub end_proceeds : (rows mid : List Row) (events : List Event) (open_at : Sessio
     → Progress rows (events ++ []) mid (put open_at i (Some s)) next (sent ++ [])
 end_proceeds rows mid events open_at next sent p i old s at result h out =
     same_after rows mid events open_at next sent p i old s at mid refl
-    (progress_same rows mid events open_at next sent i old s p at (by result h))
+    (progress_same rows mid events open_at next sent i old s p at (called_by result h) (by result h))
   where
+    called_by : (r : Result (Unit {0}) SessionFault) → session.Concludes old s r → origin_of s ≡ origin_of old
+    called_by (Ok u) c = ap origin_of c.0
+    called_by (Err f) c = c.1
+
     before : StandsFor old (brought i events) (records_of i p.arrivals) (replies_of i p.arrivals p.answers)
         (written i events)
     before = p.each i old at
@@ -157,14 +165,14 @@ end_proceeds rows mid events open_at next sent p i old s at result h out =
         → StandsFor s (brought i events) (records_of i p.arrivals) (replies_of i p.arrivals p.answers)
         (written i events)
     broken_by f c None e =
-        let told = c.2 (brought i events) (records_of i p.arrivals) (before.reads e) in
+        let told = c.3 (brought i events) (records_of i p.arrivals) (before.reads e) in
         stands_broken s f (brought i events) (records_of i p.arrivals) (replies_of i p.arrivals p.answers)
         (written i events) c.0
         (subst (λ x. FlawedIn (records_of i p.arrivals) x (brought i events)) (sym told.0) (refl, told.1))
         record { few = before.holds.few; waits = out ∙ before.holds.waits }
     broken_by f c (Some g) e =
         subst (λ x. StandsFor x (brought i events) (records_of i p.arrivals) (replies_of i p.arrivals p.answers)
-        (written i events)) (sym (c.1 g e)) before
+        (written i events)) (sym (c.2 g e)) before
 
     by : (r : Result (Unit {0}) SessionFault) → session.Concludes old s r
         → StandsFor s (brought i events) (records_of i p.arrivals) (replies_of i p.arrivals p.answers)

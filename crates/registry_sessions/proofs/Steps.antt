@@ -17,7 +17,7 @@ use Rattle.rpc_engine.specs.Served.{most_record}
 use Rattle.registry_sessions.specs.declared.session.Session.{Session}
 use Rattle.registry_sessions.specs.declared.fault.SessionFault.TheVariants as fault
 use Rattle.registry_sessions.specs.declared.fault.Taken.TheVariants as taken
-use Rattle.registry_sessions.specs.Represents.{output_of, Replies, Takes, Flawed}
+use Rattle.registry_sessions.specs.Represents.{output_of, origin_of, Replies, Takes, Flawed}
 use Rattle.registry_sessions.specs.Represents.{Breaks}
 use Rattle.registry_sessions.specs.Private.Replying.{AnswersNext, fault_of}
 use Rattle.registry_sessions.proofs.Refused.{refused_whole}
@@ -35,13 +35,13 @@ replies_more old new more same within out replies count h =
     }
 
 -- a record was whole, and it was answered
-pub takes_record : (old new : Session) (fed : RecordReader) (netid : List ℕ) (rows after : List Row) (piece : List ℕ)
-    (used : ℕ) → reader.limit_of fed ≡ reader.limit_of old.records
+pub takes_record : (old new : Session) (fed : RecordReader) (rows after : List Row) (piece : List ℕ) (used : ℕ)
+    → reader.limit_of fed ≡ reader.limit_of old.records
     → reader.Feeds old.records fed piece (Ok (step.Whole used)) → new.fault ≡ old.fault → new.sent ≡ old.sent
     → old.sent ≤ length old.output.items
-    → AnswersNext rows netid fed new.records after old.output.items new.output.items
-    → Takes old new netid rows after piece (taken.Answered used)
-takes_record old new fed netid rows after piece used limit feeds fault sent within next = (
+    → AnswersNext (origin_of old) rows fed new.records after old.output.items new.output.items
+    → Takes old new rows after piece (taken.Answered used)
+takes_record old new fed rows after piece used limit feeds fault sent within next = (
   feeds.1,
   (λ bytes rs h. feeds.3 h.taking),
   record {
@@ -49,6 +49,8 @@ takes_record old new fed netid rows after piece used limit feeds fault sent with
     refused = next.pushes.refused;
     sent = next.pushes.sent;
     answer = next.pushes.answer;
+    ends = λ bytes rs h. subst (λ n. IsWhole n (rs ++ next.message ∷ []) (bytes ++ take used piece)) (limit ∙ h.limit)
+        (next.handed (bytes ++ take used piece) rs (feeds.2 bytes rs h.represents));
     reads = λ bytes rs h. record {
       sound = fault ∙ h.sound;
       taking = between_taking new.records next.between;

@@ -3,19 +3,20 @@ use Rattle.std.proofs.Common.{◌≡◌, ℕ, ◌+◌, ◌≤◌, ◌<◌, nat_e
 use Rattle.std.proofs.Common.{length}
 use Rattle.std.proofs.Common.{Option, Some, refl, sym, ap, ◌∙◌, subst, arith, is_some}
 use Rattle.std.proofs.lemmas.List.{append-nil}
-use Rattle.std.proofs.lemmas.Bool.{eqb-true}
+use Rattle.std.proofs.lemmas.Bool.{eqb-true, eqb-false}
 use Rattle.std.specs.List.{flat_map}
 use Rattle.registry_rows.specs.Rows.{Row}
 use Rattle.rpc_record.specs.Marked.{normal, Longest}
 use Rattle.rpc_record.proofs.Readers.{Longest-taking}
 use Rattle.rpc_engine.specs.Served.{most_record}
 use Rattle.registry_sessions.specs.declared.session.Session.{Session}
-use Rattle.registry_sessions.specs.Represents.{HasRead}
+use Rattle.registry_sessions.specs.declared.origin.Origin.{Origin}
+use Rattle.registry_sessions.specs.Represents.{HasRead, origin_of}
 use Rattle.registry_sessions.specs.Events.{Event, Arrival, HaveArrived, InOrder, brought, written, bytes_in, count_in}
-use Rattle.registry_sessions.specs.Events.{records_of, arrived_in, datagram_in, opened_by}
+use Rattle.registry_sessions.specs.Events.{AreOriginsOf, NeverOpened, records_of, arrived_in, datagram_in, opened_by}
 use Rattle.registry_sessions.specs.Interleaved.{MergedRun, replies_of, sent_of}
 use Rattle.registry_sessions.specs.Progress.{Sessions, put, Progress, StandsFor}
-use Rattle.registry_sessions.proofs.Orders.{one_more, written_one, open_more}
+use Rattle.registry_sessions.proofs.Orders.{one_more, written_one, open_more, never_more}
 
 -- the records of a session are those of the longest front
 pub longest : (s : Session) (bytes : List ℕ) (rs : List (List ℕ)) → HasRead s bytes rs → Longest most_record rs bytes
@@ -47,13 +48,17 @@ same_sessions rows new events open_at other next sent same p = record {
   arrivals = p.arrivals;
   refusals = p.refusals;
   answers = p.answers;
+  whence = p.whence;
+  origins = p.origins;
   order = p.order;
   run = p.run;
   opened = λ j. ap is_some (same j) ∙ p.opened j;
   few = p.few;
   each = λ j s at. p.each j s (sym (same j) ∙ at);
+  came = λ j s at. p.came j s (sym (same j) ∙ at);
   below = λ j s at. p.below j s (sym (same j) ∙ at);
   fresh = p.fresh;
+  unopened = p.unopened;
   datagrams = p.datagrams;
 }
 
@@ -70,6 +75,7 @@ module _ (rows mid : List Row) (events : List Event) (open_at : Sessions) (next 
     pub open_is : (j : ℕ) → is_some (put open_at i o j) ≡ opened_by j (is_some (open_at j)) e
     pub within : i < later
     pub grows : next ≤ later
+    pub not_begun : (j : ℕ) → later ≤ j → NeverOpened j (e ∷ [])
 
   -- what is then the connection's own
   pub record Becomes : Type 0 where
@@ -132,7 +138,15 @@ module _ (rows mid : List Row) (events : List Event) (open_at : Sessions) (next 
       let f = p.fresh j (omega (arith, h.grows, late)) in
       (append-nil (brought j events) ∙ f.0, omega (arith, f.1))
 
-  pub advance : IsOf → Becomes → (new : List Row) (arrivals : List Arrival) (refusals : List Bool)
+  came_by : (whence : ℕ → Origin) → ((j : ℕ) → (j ≡ i → ⊥) → whence j ≡ p.whence j)
+      → ((s : Session) → o ≡ Some s → origin_of s ≡ whence i) → (j : ℕ) (s : Session) (b : Bool) → (b ≡ true → j ≡ i)
+      → (b ≡ false → j ≡ i → ⊥) → (if b then o else open_at j) ≡ Some s → origin_of s ≡ whence j
+  came_by whence same here j s true is apart at = here s at ∙ ap whence (sym (is refl))
+  came_by whence same here j s false is apart at = p.came j s at ∙ sym (same j (apart refl))
+
+  pub advance : IsOf → Becomes → (whence : ℕ → Origin) → AreOriginsOf whence (events ++ e ∷ [])
+      → ((j : ℕ) → (j ≡ i → ⊥) → whence j ≡ p.whence j) → ((s : Session) → o ≡ Some s → origin_of s ≡ whence i)
+      → (new : List Row) (arrivals : List Arrival) (refusals : List Bool)
       (answers : List (Option (List ℕ)))
       → ((j : ℕ) → records_of j arrivals ≡ records_of j p.arrivals ++ (if nat_eq j i then rs else []))
       → ((j : ℕ)
@@ -140,35 +154,41 @@ module _ (rows mid : List Row) (events : List Event) (open_at : Sessions) (next 
       → flat_map arrived_in arrivals ≡ flat_map arrived_in p.arrivals
       → sent_of arrivals answers ≡ sent_of p.arrivals p.answers
       → (HaveArrived (events ++ e ∷ []) arrivals → InOrder (events ++ e ∷ []) arrivals)
-      → MergedRun rows arrivals refusals new answers
+      → MergedRun whence rows arrivals refusals new answers
       → Progress rows (events ++ e ∷ []) new (put open_at i o) later sent
-  advance h k new arrivals refusals answers records_are replies_are arrived_are sent_are ordered run = record {
-    arrivals = arrivals;
-    refusals = refusals;
-    answers = answers;
-    order = ordered record {
-      records = λ j. subst (λ x. Longest most_record (records_of j arrivals) x) (brought_more h j)
-          (subst (λ x. Longest most_record x (brought j events ++ (if nat_eq j i then bytes else [])))
-          (sym (records_are j)) (longest_by k j (nat_eq j i) (eqb-true j i)));
-      datagrams = arrived_are ∙ p.order.all.datagrams
-          ∙ sym (one_more datagram_in events e ∙ ap (λ x. flat_map datagram_in events ++ x) h.no_datagram
-          ∙ append-nil (flat_map datagram_in events));
-    };
-    run = run;
-    opened = λ j. h.open_is j ∙ ap (λ b. opened_by j b e) (p.opened j) ∙ sym (open_more j false events e);
-    few = λ j. subst (λ n. n ≤ length (normal (replies_of j arrivals answers))) (written_more h j)
-        (subst (λ x. written j events + (if nat_eq j i then count else 0) ≤ length (normal x)) (sym (replies_are j))
-        (few_by k j (nat_eq j i) (eqb-true j i)));
-    each = λ j s at. stands_same s (brought j events ++ (if nat_eq j i then bytes else []))
-        (brought j (events ++ e ∷ []))
-        (records_of j p.arrivals ++ (if nat_eq j i then rs else [])) (records_of j arrivals)
-        (replies_of j p.arrivals p.answers ++ (if nat_eq j i then more else [])) (replies_of j arrivals answers)
-        (written j events + (if nat_eq j i then count else 0)) (written j (events ++ e ∷ []))
-        (brought_more h j) (sym (records_are j)) (sym (replies_are j)) (written_more h j)
-        (stands_by k j s (nat_eq j i) (eqb-true j i) at);
-    below = λ j s at. below_by h j s (nat_eq j i) (eqb-true j i) at;
-    fresh = λ j late.
-        let f = fresh_by h j (nat_eq j i) (eqb-true j i) late in
-        (sym (brought_more h j) ∙ f.0, sym (written_more h j) ∙ f.1);
-    datagrams = p.datagrams ∙ sym sent_are;
-  }
+  advance h k whence origins same here new arrivals refusals answers records_are replies_are arrived_are sent_are
+      ordered run = record {
+        arrivals = arrivals;
+        refusals = refusals;
+        answers = answers;
+        whence = whence;
+        origins = origins;
+        order = ordered record {
+          records = λ j. subst (λ x. Longest most_record (records_of j arrivals) x) (brought_more h j)
+              (subst (λ x. Longest most_record x (brought j events ++ (if nat_eq j i then bytes else [])))
+              (sym (records_are j)) (longest_by k j (nat_eq j i) (eqb-true j i)));
+          datagrams = arrived_are ∙ p.order.all.datagrams
+              ∙ sym (one_more datagram_in events e ∙ ap (λ x. flat_map datagram_in events ++ x) h.no_datagram
+              ∙ append-nil (flat_map datagram_in events));
+        };
+        run = run;
+        opened = λ j. h.open_is j ∙ ap (λ b. opened_by j b e) (p.opened j) ∙ sym (open_more j false events e);
+        few = λ j. subst (λ n. n ≤ length (normal (replies_of j arrivals answers))) (written_more h j)
+            (subst (λ x. written j events + (if nat_eq j i then count else 0) ≤ length (normal x)) (sym (replies_are j))
+            (few_by k j (nat_eq j i) (eqb-true j i)));
+        each = λ j s at. stands_same s (brought j events ++ (if nat_eq j i then bytes else []))
+            (brought j (events ++ e ∷ []))
+            (records_of j p.arrivals ++ (if nat_eq j i then rs else [])) (records_of j arrivals)
+            (replies_of j p.arrivals p.answers ++ (if nat_eq j i then more else [])) (replies_of j arrivals answers)
+            (written j events + (if nat_eq j i then count else 0)) (written j (events ++ e ∷ []))
+            (brought_more h j) (sym (records_are j)) (sym (replies_are j)) (written_more h j)
+            (stands_by k j s (nat_eq j i) (eqb-true j i) at);
+        came = λ j s at. came_by whence same here j s (nat_eq j i) (eqb-true j i) (eqb-false j i) at;
+        below = λ j s at. below_by h j s (nat_eq j i) (eqb-true j i) at;
+        fresh = λ j late.
+            let f = fresh_by h j (nat_eq j i) (eqb-true j i) late in
+            (sym (brought_more h j) ∙ f.0, sym (written_more h j) ∙ f.1);
+        unopened = λ j late.
+            never_more j events e (p.unopened j (omega (arith, h.grows, late))) (h.not_begun j late);
+        datagrams = p.datagrams ∙ sym sent_are;
+      }

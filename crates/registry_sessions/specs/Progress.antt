@@ -16,8 +16,9 @@ use Rattle.registry_sessions.specs.declared.fault.Taken.{Taken}
 use Rattle.registry_sessions.specs.declared.fault.Taken.TheVariants as taken
 use Rattle.registry_sessions.specs.declared.session.Session.{Session}
 use Rattle.registry_sessions.specs.declared.table.SessionTable.{SessionTable}
-use Rattle.registry_sessions.specs.Represents.{HasRead, Holds}
-use Rattle.registry_sessions.specs.Events.{Event, Brings, Drops, Arrival, InOrder}
+use Rattle.registry_sessions.specs.declared.origin.Origin.{Origin}
+use Rattle.registry_sessions.specs.Represents.{HasRead, Holds, origin_of}
+use Rattle.registry_sessions.specs.Events.{Event, Brings, Drops, Arrival, InOrder, AreOriginsOf, NeverOpened}
 use Rattle.registry_sessions.specs.Events.{brought, written, open_after, records_of}
 use Rattle.registry_sessions.specs.Interleaved.{MergedRun, FlawedIn, replies_of, sent_of}
 
@@ -43,14 +44,18 @@ pub record Progress (rows : List Row) (events : List Event) (new : List Row) (op
   pub arrivals : List Arrival
   pub refusals : List Bool
   pub answers : List (Option (List ℕ))
+  pub whence : ℕ → Origin
+  pub origins : AreOriginsOf whence events
   pub order : InOrder events arrivals
-  pub run : MergedRun rows arrivals refusals new answers
+  pub run : MergedRun whence rows arrivals refusals new answers
   pub opened : (i : ℕ) → is_some (open_at i) ≡ open_after i false events
   pub few : (i : ℕ) → written i events ≤ length (normal (replies_of i arrivals answers))
   pub each : (i : ℕ) (s : Session) → open_at i ≡ Some s
       → StandsFor s (brought i events) (records_of i arrivals) (replies_of i arrivals answers) (written i events)
+  pub came : (i : ℕ) (s : Session) → open_at i ≡ Some s → origin_of s ≡ whence i
   pub below : (i : ℕ) (s : Session) → open_at i ≡ Some s → i < next
   pub fresh : (i : ℕ) → next ≤ i → (brought i events ≡ []) × (written i events ≡ 0)
+  pub unopened : (i : ℕ) → next ≤ i → NeverOpened i events
   pub datagrams : sent ≡ sent_of arrivals answers
 
 -- the session of a connection
@@ -100,11 +105,14 @@ pub record Steps (old new : SessionTable) (i : ℕ) (step : Session → Session 
   pub steps : step before after
   pub limits : SameLimits old new
 
--- There is a session at this number now, which has read nothing and has no replies. All others are as they were.
-pub record Starts (old new : SessionTable) (i : ℕ) : Type 0 where
+-- There is a session of this origin at this number now, which has read nothing and has no replies. The number is the
+-- next, which no connection has had. All others are as they were.
+pub record Starts (old new : SessionTable) (i : ℕ) (origin : Origin) : Type 0 where
+  pub number : i ≡ next_of old
   pub session : Session
   pub is : session_at new i ≡ Some session
   pub others : (j : ℕ) → j ≢ i → session_at new j ≡ session_at old j
+  pub of : origin_of session ≡ origin
   pub reads : HasRead session [] []
   pub holds : Holds session [] 0
   pub limits : SameLimits old new

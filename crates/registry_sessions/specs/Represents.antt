@@ -7,8 +7,9 @@ use Rattle.rpc_record.specs.Marked.{normal, Longest}
 use Rattle.rpc_record.specs.Reading.{IsWhole, IsInside, RefusedIn, TooLongAt, capped}
 use Rattle.rpc_record.specs.Represents as reader
 use Rattle.registry_rows.specs.Rows.{Row}
-use Rattle.registry_rows.specs.Ports.{tcp}
-use Rattle.registry_answer.specs.Answer.{Answer}
+use Rattle.registry_callers.specs.From.{AnswerFrom}
+use Rattle.registry_sessions.specs.declared.origin.Origin.{Origin}
+use Rattle.registry_answer.specs.Views.{netid_of}
 use Rattle.rpc_engine.specs.Run.{listed}
 use Rattle.rpc_engine.specs.Served.{most_record}
 use Rattle.registry_sessions.specs.declared.fault.SessionFault.{SessionFault}
@@ -24,6 +25,10 @@ output_of s = drop s.sent s.output.items
 -- with more bytes than these waiting it takes nothing
 abbrev pub bound_of : Session → ℕ
 bound_of s = s.bound
+
+-- where its bytes come from
+abbrev pub origin_of : Session → Origin
+origin_of s = s.origin
 
 -- how many bytes it keeps: of a record that is not whole, and of replies
 abbrev pub kept_of : Session → ℕ
@@ -63,22 +68,26 @@ abbrev pub Replies : Session → Session → List (List ℕ) → Type 0
 Replies old new more = (replies : List (List ℕ)) (count : ℕ) → Holds old replies count
     → Holds new (replies ++ more) count
 
--- A record was whole with these bytes, and it was answered: the new rows, and its reply behind those that wait.
-pub record Answers (old new : Session) (netid : List ℕ) (rows after : List Row) (bytes : List ℕ) : Type 0 where
+-- A record was whole with these bytes, of which the last is its last, and it was answered: the new rows, and its reply
+-- behind those that wait.
+pub record Answers (old new : Session) (rows after : List Row) (bytes : List ℕ) : Type 0 where
   pub message : List ℕ
   pub refused : Bool
   pub sent : Option (List ℕ)
-  pub answer : Answer rows netid message refused after sent
+  pub answer : AnswerFrom (origin_of old).caller rows (netid_of (origin_of old).transport) message refused after sent
+  pub ends : (before : List ℕ) (rs : List (List ℕ)) → HasRead old before rs
+      → IsWhole most_record (rs ++ message ∷ []) (before ++ bytes)
   pub reads : Reads old new bytes (message ∷ [])
   pub replies : Replies old new (listed sent)
 
 -- what taking bytes of a piece does
-abbrev pub Takes : Session → Session → (netid : List ℕ) → (rows after : List Row) → (piece : List ℕ) → Taken → Type 0
-Takes old new netid rows after piece taken.More = (after ≡ rows) × Reads old new piece [] × Replies old new []
-Takes old new netid rows after piece (taken.Answered used) =
+abbrev pub Takes : Session → Session → (rows after : List Row) → (piece : List ℕ) → Taken → Type 0
+Takes old new rows after piece taken.More =
+    (after ≡ rows) × Reads old new piece [] × Replies old new [] × (output_of new ≡ output_of old)
+Takes old new rows after piece (taken.Answered used) =
     (used ≤ length piece) × ((bytes : List ℕ) (rs : List (List ℕ)) → HasRead old bytes rs → 0 < used)
-    × Answers old new netid rows after (take used piece)
-Takes old new netid rows after piece taken.Full = (after ≡ rows) × (new ≡ old) × IsFull old
+    × Answers old new rows after (take used piece)
+Takes old new rows after piece taken.Full = (after ≡ rows) × (new ≡ old) × IsFull old
 
 -- What a fault that bytes bring says of the records that were answered, and of the bytes, of which the last n came with
 -- it. `TooLong`: a header passes the limit. `NoMemory`: memory was refused for the record after these, in the last n.
@@ -100,16 +109,18 @@ pub record Stays (old new : Session) (result : Result Taken SessionFault) : Type
   pub broken : (f : SessionFault) → IsBroken old f → (result ≡ Err f) × (new ≡ old)
   pub full : old.fault ≡ None → IsFull old → result ≡ Ok taken.Full
 
--- All of this, of an answer to a piece that came over TCP.
+-- All of this, of an answer to a piece.
 pub record TakesIn (old new : Session) (rows after : List Row) (piece : List ℕ) (result : Result Taken SessionFault)
     : Type 0 where
-  pub taken : IfOk result (λ t. Takes old new tcp rows after piece t)
+  pub taken : IfOk result (λ t. Takes old new rows after piece t)
   pub fault : IfErr result (λ f. Breaks old new rows after piece f)
   pub stays : Stays old new result
+  pub same_origin : origin_of new ≡ origin_of old
 
 -- What a write of so many bytes does: whatever was read stays, and so many more of the replies' bytes were taken.
 pub record Took (old new : Session) (n : ℕ) : Type 0 where
   pub same_fault : new.fault ≡ old.fault
+  pub same_origin : origin_of new ≡ origin_of old
   pub reads : (bytes : List ℕ) (rs : List (List ℕ)) → HasRead old bytes rs → HasRead new bytes rs
   pub replies : (replies : List (List ℕ)) (count : ℕ) → Holds old replies count → Holds new replies (count + n)
 
@@ -119,6 +130,6 @@ abbrev pub Concludes : Session → Session → Result (Unit {0}) SessionFault �
 Concludes old new (Ok u) =
     (new ≡ old) × ((bytes : List ℕ) (rs : List (List ℕ)) → HasRead old bytes rs → IsWhole most_record rs bytes)
 Concludes old new (Err f) =
-    IsBroken new f × ((g : SessionFault) → IsBroken old g → new ≡ old)
+    IsBroken new f × (origin_of new ≡ origin_of old) × ((g : SessionFault) → IsBroken old g → new ≡ old)
     × ((bytes : List ℕ) (rs : List (List ℕ)) → HasRead old bytes rs
     → (f ≡ fault.Record (flaw.Truncated (capped (length bytes)))) × IsInside most_record rs bytes)

@@ -2,10 +2,11 @@
 ghost use Rattle.std.specs.Prelude.{◌≡◌, ◌+◌, ◌^◌, ◌<◌, ◌≤◌, ◌++◌, ◌∷◌, [], ℕ, List, length, true, OnOk, OnErr};
 ghost use Rattle.std.specs.Prelude.{vec_len};
 ghost use Rattle.rpc_record.specs.Marked.{fragment};
-ghost use Rattle.registry_answer.specs.Views.{netid_of};
 ghost use Rattle.registry_sessions.specs.Private.Replying.{PushesReply};
 
-use registry_answer::{Appended, Transport, append_answer, system_error};
+use crate::origin::Origin;
+use registry_answer::{Appended, system_error};
+use registry_callers::{append_answer_from, refused_rows_stay};
 use rpc_directory::Directory;
 use rpc_record::{NoMemory, last_header, normal_forms_join};
 use std::alloc::Global;
@@ -15,23 +16,32 @@ use std::hash::BuildHasher;
 /// of SYSTEM_ERR, the rows and the bytes stay.
 pub fn push_reply<S: BuildHasher>(
     alloc: Global,
+    origin: Origin,
     directory: &mut Directory<S>,
-    transport: Transport,
     message: &[u8],
     out: &mut Vec<u8>,
 ) -> Result<(), NoMemory>
-    ensures ok { OnOk result (PushesReply directory.old (netid_of transport) message.now directory.new out.old.items
+    ensures ok { OnOk result (PushesReply origin directory.old message.now directory.new out.old.items
         out.new.items) }
     ensures rows { OnErr result (directory.new ≡ directory.old) }
     ensures bytes { OnErr result (out.new.items ≡ out.old.items) }
 {
     // The law, for the proof: a fragment has four bytes more than its content.
     normal_forms_join();
+    // And where memory is refused the rows stay.
+    refused_rows_stay();
     let before = out.len();
     if out.extend_from_slice(&[0; 4]).is_err() {
         return Err(NoMemory);
     }
-    match append_answer(alloc, directory, transport, message, out) {
+    match append_answer_from(
+        alloc,
+        origin.caller,
+        directory,
+        origin.transport,
+        message,
+        out,
+    ) {
         Appended::Nothing => {
             out.truncate(before);
             Ok(())

@@ -4,13 +4,12 @@ ghost use Rattle.std.specs.Prelude.{OnOk, OnErr};
 ghost use Rattle.std.specs.Prelude.{vec_len, vec_capacity};
 ghost use Rattle.rpc_record.specs.Represents.{IsWaiting, limit_of};
 ghost use Rattle.rpc_engine.specs.Served.{most_record};
-ghost use Rattle.registry_answer.specs.Views.{netid_of};
 ghost use Rattle.registry_sessions.specs.Bounds.{most_marked, most_spare};
 ghost use Rattle.registry_sessions.specs.Private.Replying.{AnswersNext, fault_of};
 
 use crate::fault::{SessionFault, Taken};
+use crate::origin::Origin;
 use crate::replies::push_reply;
-use registry_answer::Transport;
 use rpc_directory::Directory;
 use rpc_record::{NoMemory, RecordFault, RecordReader, RecordStep, too_long_ends_the_stream};
 use std::alloc::Global;
@@ -36,6 +35,7 @@ pub struct Session {
     /// With more bytes than these waiting no record is answered.
     bound: u32,
     fault: Option<SessionFault>,
+    origin: Origin,
     alloc: Global,
     ghost limit: { limit_of records ≡ most_record },
     ghost lean: { vec_capacity spare ≤ most_spare },
@@ -72,13 +72,13 @@ fn answer_next<S: BuildHasher>(
     alloc: Global,
     records: &mut RecordReader,
     spare: &mut Vec<u8>,
+    origin: Origin,
     directory: &mut Directory<S>,
-    transport: Transport,
     out: &mut Vec<u8>,
 ) -> Result<(), NoMemory>
     requires waiting { IsWaiting records.old }
-    ensures ok { OnOk result (AnswersNext directory.old (netid_of transport) records.old records.new directory.new
-        out.old.items out.new.items) }
+    ensures ok { OnOk result (AnswersNext origin directory.old records.old records.new directory.new out.old.items
+        out.new.items) }
     ensures rows { OnErr result (directory.new ≡ directory.old) }
     ensures bytes { OnErr result (out.new.items ≡ out.old.items) }
     ensures limit { limit_of records.new ≡ limit_of records.old }
@@ -87,7 +87,7 @@ fn answer_next<S: BuildHasher>(
     let memory = mem::replace(spare, Vec::new(alloc));
     match records.take_with(memory) {
         Some(record) => {
-            let pushed = push_reply(alloc, directory, transport, &record, out);
+            let pushed = push_reply(alloc, origin, directory, &record, out);
             *spare = emptied(alloc, record);
             pushed
         }
@@ -97,16 +97,18 @@ fn answer_next<S: BuildHasher>(
 
 impl Session {
     ghost use Rattle.rpc_record.specs.Marked.{Longest};
-    ghost use Rattle.registry_sessions.specs.Represents.{output_of, bound_of, kept_of, fault_in, IsFull};
+    ghost use Rattle.registry_sessions.specs.Represents.{output_of, bound_of, origin_of, kept_of, fault_in, IsFull};
     ghost use Rattle.registry_sessions.specs.Represents.{HasRead, Holds, Takes, Breaks, Stays, Took, Concludes};
 
-    /// A session before its first byte. While more than `bound` bytes of its output wait, it takes nothing.
-    pub fn start(alloc: Global, bound: u32) -> Self
+    /// A session before its first byte. Its bytes are to come from `origin`. While more than `bound` bytes of its
+    /// output wait, it takes nothing.
+    pub fn start(alloc: Global, bound: u32, origin: Origin) -> Self
         // It has taken no bytes and answered no records,
         ensures reads { HasRead result [] [] }
         // and has no replies.
         ensures replies { Holds result [] 0 }
         ensures bound { bound_of result ≡ bound }
+        ensures origin { origin_of result ≡ origin }
     {
         Session {
             records: RecordReader::start(alloc, MOST_RECORD),
@@ -115,6 +117,7 @@ impl Session {
             sent: 0,
             bound,
             fault: None,
+            origin,
             alloc,
         }
     }
@@ -128,16 +131,15 @@ impl Session {
         &mut self,
         piece: &[u8],
         directory: &mut Directory<S>,
-        transport: Transport,
     ) -> Result<Taken, SessionFault>
         // What was taken, that the record was answered, and where its reply stands.
-        ensures taken { IfOk result (λ taken. Takes self.old self.new (netid_of transport) directory.old directory.new
-            piece.now taken) }
+        ensures taken { IfOk result (λ taken. Takes self.old self.new directory.old directory.new piece.now taken) }
         // What a fault says of all bytes that were ever taken.
         ensures fault { IfErr result (λ f. Breaks self.old self.new directory.old directory.new piece.now f) }
         // After a fault nothing changes, and above the bound nothing is taken.
         ensures stays { Stays self.old self.new result }
         ensures bound { bound_of self.new ≡ bound_of self.old }
+        ensures origin { origin_of self.new ≡ origin_of self.old }
     {
         // The law, for the proof: where a header passes the limit, the records before it are those of the longest
         // front.
@@ -155,8 +157,8 @@ impl Session {
                     self.alloc,
                     &mut self.records,
                     &mut self.spare,
+                    self.origin,
                     directory,
-                    transport,
                     &mut self.output,
                 ) {
                     Ok(()) => Ok(Taken::Answered { used }),
@@ -215,6 +217,7 @@ impl Session {
         // What was read stays, and so many more bytes of the replies were taken.
         ensures took { Took self.old self.new n }
         ensures bound { bound_of self.new ≡ bound_of self.old }
+        ensures origin { origin_of self.new ≡ origin_of self.old }
     {
         self.sent += n;
         let waiting = self.output.len() - self.sent;
@@ -242,6 +245,7 @@ impl Session {
         ensures concludes { Concludes self.old self.new result }
         ensures output { output_of self.new ≡ output_of self.old }
         ensures bound { bound_of self.new ≡ bound_of self.old }
+        ensures origin { origin_of self.new ≡ origin_of self.old }
     {
         if let Some(fault) = self.fault {
             return Err(fault);

@@ -5,8 +5,10 @@ ghost use Rattle.registry_sessions.specs.declared.session.Session.{Session};
 ghost use Rattle.registry_sessions.specs.Represents.{bound_of};
 
 use crate::fault::{OpenFault, SessionFault, Taken};
+use crate::origin::Origin;
 use crate::session::Session;
-use registry_answer::{Appended, Transport, append_answer};
+use registry_answer::{Appended, Transport};
+use registry_callers::{Caller, append_answer_from};
 use rpc_directory::Directory;
 use std::alloc::Global;
 use std::collections::HashMap;
@@ -57,12 +59,12 @@ impl SessionTable {
         }
     }
 
-    /// Begins a connection, and answers its number. `Full` comes where as many are open as may be, or where 2^64 - 1
-    /// numbers were given.
-    pub fn open(&mut self) -> Result<u64, OpenFault>
-        ensures opened { IfOk result (λ i. Starts self.old self.new i) }
+    /// Begins a connection from `origin`, and answers its number. `Full` comes where as many are open as may be, or
+    /// where 2^64 - 1 numbers were given.
+    pub fn open(&mut self, origin: Origin) -> Result<u64, OpenFault>
+        ensures opened { IfOk result (λ i. Starts self.old self.new i origin) }
         ensures proceeds { IfOk result (λ i.
-            (rows : List Row) → Proceeds self.old self.new rows rows (Opens i ∷ []) []) }
+            (rows : List Row) → Proceeds self.old self.new rows rows (Opens i origin ∷ []) []) }
         ensures full { IsErrOf result OpenFault.Full
             → (most_of self.old ≤ count_of self.old) ⊎ (next_of self.old ≡ 2 ^ 64 - 1) }
         // Where none was begun, nothing changed, and the table has done nothing.
@@ -73,7 +75,7 @@ impl SessionTable {
             return Err(OpenFault::Full);
         }
         let number = self.next;
-        let session = Session::start(self.alloc, self.bound);
+        let session = Session::start(self.alloc, self.bound, origin);
         match self.sessions.insert(number, session) {
             Ok(_) => {
                 self.next += 1;
@@ -118,7 +120,7 @@ impl SessionTable {
         ensures same { IfNone result ((self.new ≡ self.old) × (directory.new ≡ directory.old)) }
     {
         match self.sessions.get_mut(&number) {
-            Some(session) => Some(session.take_in(piece, directory, Transport::Tcp)),
+            Some(session) => Some(session.take_in(piece, directory)),
             None => None,
         }
     }
@@ -163,18 +165,26 @@ impl SessionTable {
         self.sessions.remove(&number)
     }
 
-    /// Answers a datagram, with the reply made in this buffer, whose bytes are dropped: `Reply` says that it stands
-    /// there. No connection changes.
+    /// Answers a datagram of a caller, with the reply made in this buffer, whose bytes are dropped: `Reply` says that
+    /// it stands there. No connection changes.
     pub fn receive<S: BuildHasher>(
         &self,
         datagram: &[u8],
+        caller: Caller,
         directory: &mut Directory<S>,
         buffer: &mut Vec<u8>,
     ) -> Appended
-        ensures { Proceeds self.now self.now directory.old directory.new (Came datagram.now ∷ [])
+        ensures { Proceeds self.now self.now directory.old directory.new (Came caller datagram.now ∷ [])
             (listed (said_of result buffer.new.items)) }
     {
         buffer.clear();
-        append_answer(self.alloc, directory, Transport::Udp, datagram, buffer)
+        append_answer_from(
+            self.alloc,
+            caller,
+            directory,
+            Transport::Udp,
+            datagram,
+            buffer,
+        )
     }
 }

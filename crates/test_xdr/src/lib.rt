@@ -2,14 +2,13 @@
 //! no engine of `tool_probe` tells.
 //!
 //! - `device`: readers and writers. `types`: kinds, schemas and values.
-//! - `codec`: random schemas and inputs, and the memory of lent parts. `shown`: lines of values of kinds that no text
-//!   declares.
+//! - `lent`: the memory of lent parts. `shown`: lines of values of kinds that no text declares.
 #![tactic(auto)]
 
 #[cfg(test)]
-mod codec;
-#[cfg(test)]
 mod device;
+#[cfg(test)]
+mod lent;
 #[cfg(test)]
 mod shown;
 #[cfg(test)]

@@ -1,21 +1,57 @@
 //! Connections of the registry at port 111, served at once by a `SessionTable`: it is served `before`, then come the
 //! `events` of the case, and then it is served `after` with all its memory. A growth that is refused is counted over
-//! the calls of all events. An event is one call: `open`; `take:CONNECTION:BYTES`, with the bytes of the reply behind
-//! what waited; `write:CONNECTION:COUNT`, with the bytes that a write took; `end:CONNECTION`; `close:CONNECTION`;
-//! `came:BYTES`, a datagram; `kept:CONNECTION`, how many bytes a session keeps.
+//! the calls of all events. An event is one call: `open`, or `open:CALLER`; `take:CONNECTION:BYTES`, with the bytes of
+//! the reply behind what waited; `write:CONNECTION:COUNT`, with the bytes that a write took; `end:CONNECTION`;
+//! `close:CONNECTION`; `came:BYTES`, a datagram; `kept:CONNECTION`, how many bytes a session keeps.
 ghost use Rattle.std.specs.Prelude.{◌≤◌, length};
 ghost use Rattle.std.specs.Option.{ForSome};
 ghost use Rattle.registry_sessions.specs.Progress.{session_at};
 ghost use Rattle.registry_sessions.specs.Represents.{output_of};
 
-use registry_answer::Appended;
-use registry_sessions::{OpenFault, Session, SessionFault, SessionTable, Taken};
+use registry_answer::{Appended, Transport};
+use registry_callers::{Caller, Peer};
+use registry_sessions::{OpenFault, Origin, Session, SessionFault, SessionTable, Taken};
 use rpc_record::RecordFault;
 use std::env::Env;
 use test_growths::held;
 use test_lines::case::{Case, allow, digits};
 use test_lines::reported::Report;
 use test_lines::served::{Registry, after_word, prepared};
+
+// Who calls: someone of this host, of whose address nothing is known.
+const CALLER: Caller = Caller {
+    peer: Peer::Local,
+    host: None,
+    trusts_remote: false,
+};
+
+// Who opens a connection, by a name: `remote`, who came to 10.0.0.7; `trusted`, a remote caller whose changes are
+// taken; `user` and `superuser`, uids 7 and 0 of this host; or else someone of this host.
+fn caller_named(name: &str) -> Caller {
+    match name {
+        "remote" => Caller {
+            peer: Peer::Remote,
+            host: Some([10, 0, 0, 7]),
+            trusts_remote: false,
+        },
+        "trusted" => Caller {
+            peer: Peer::Remote,
+            host: None,
+            trusts_remote: true,
+        },
+        "user" => Caller {
+            peer: Peer::LocalUser(7),
+            host: None,
+            trusts_remote: false,
+        },
+        "superuser" => Caller {
+            peer: Peer::LocalUser(0),
+            host: None,
+            trusts_remote: false,
+        },
+        _ => CALLER,
+    }
+}
 
 // An event: its name, the number of its connection, and what else stands there.
 #[derive(Clone, Copy)]
@@ -104,9 +140,12 @@ fn taken_words(out: &mut Report, taken: Result<Taken, SessionFault>, reply: &[u8
     }
 }
 
-fn opened(out: &mut Report, rt: &impl Env, case: &Case<'_>, serving: &mut Serving) {
+fn opened(out: &mut Report, rt: &impl Env, case: &Case<'_>, serving: &mut Serving, name: &str) {
     let begun = begun(rt, case, serving);
-    let answer = serving.table.open();
+    let answer = serving.table.open(Origin {
+        caller: caller_named(name),
+        transport: Transport::Tcp,
+    });
     counted(rt, serving, begun);
     match answer {
         Ok(number) => out.number("open ", number),
@@ -211,9 +250,12 @@ fn closed(
 fn came(out: &mut Report, rt: &impl Env, case: &Case<'_>, serving: &mut Serving, datagram: &str) {
     let datagram = digits(case.alloc, datagram);
     let begun = begun(rt, case, serving);
-    let answer = serving
-        .table
-        .receive(&datagram, &mut serving.directory, &mut serving.buffer);
+    let answer = serving.table.receive(
+        &datagram,
+        CALLER,
+        &mut serving.directory,
+        &mut serving.buffer,
+    );
     counted(rt, serving, begun);
     match answer {
         Appended::Nothing => out.text("no reply"),
@@ -234,7 +276,7 @@ fn kept(out: &mut Report, serving: &Serving, event: Event<'_>) {
 fn happened(out: &mut Report, rt: &impl Env, case: &Case<'_>, serving: &mut Serving, text: &str) {
     let event = event_of(text);
     match event.name {
-        "open" => opened(out, rt, case, serving),
+        "open" => opened(out, rt, case, serving, text.get(5..).unwrap_or("")),
         "take" => taken(out, rt, case, serving, event),
         "write" => written(out, rt, case, serving, event),
         "end" => ended(out, rt, case, serving, event),

@@ -33,7 +33,7 @@ pub struct Version {
 }
 
 /// A program: versions under one number (RFC 5531 section 12.2).
-#[derive(Debug, Drop)]
+#[derive(Debug)]
 pub struct Program {
     /// No other program, type or constant of the text has the name (RFC 5531 section 12.3).
     pub name: String,
@@ -41,6 +41,17 @@ pub struct Program {
     pub number: u32,
     /// Its versions, in text order.
     pub versions: Vec<Version>,
+}
+
+// Written out, and not derived: so its proof is made here alone, and not in each crate that drops what is declared.
+impl Drop for Program {
+    fn drop(self) {
+        let Program {
+            name: _name,
+            number: _number,
+            versions: _versions,
+        } = self;
+    }
 }
 
 /// What a text declares: its kinds and types after the basic ones, its constants after TRUE and FALSE,

@@ -1,5 +1,5 @@
-//! Tests of `xdr_io` by its public calls: that a call succeeds, what reaches std's readers and writers and what these
-//! answer, and refused memory.
+//! Tests of `xdr_io` by its public calls: what reaches std's readers and writers and what these answer, and what is
+//! neither read nor written nor reserved.
 mod input;
 mod output;
 mod over_std;

@@ -22,15 +22,6 @@ fn fits_within_limits(rt: HostRuntime) {
     assert!(rt; size_of_three(rt.alloc(), 1, 1, 8) == Some(None));
 }
 
-#[test]
-fn has_limits(rt: HostRuntime) {
-    for (depth, bytes) in [(0, 8), (4097, 8), (1, 0), (1, 6), (1, 16777220)] {
-        assert!(rt; Limits::new(depth, bytes).is_none());
-    }
-    assert!(rt; Limits::new(4096, 16777216).is_some_and(|limits| limits.depth() == 4096));
-    assert!(rt; Limits::new(1, 4).is_some_and(|limits| limits.bytes() == 4));
-}
-
 // How many bytes a list of strings takes within the widest limits.
 fn size_of_list(alloc: Global, list: &Value) -> Option<Option<u32>> {
     let schema = unnamed(alloc, list_kinds(alloc).ok()?)?;

@@ -1,11 +1,10 @@
--- Replies to other calls are passed over.
-use Rattle.std.proofs.Common.{◌≡◌, ℕ, List, [], ◌∷◌, ◌++◌, take, Err, refl, sym, subst, arith}
+-- Datagrams of other calls are passed over.
+use Rattle.std.proofs.Common.{◌≡◌, ℕ, List, [], ◌∷◌, ◌++◌, take, refl, sym, arith}
 use Rattle.std.proofs.Common.{length-append}
 use Rattle.xdr_io.proofs.Chained.{Counts-trans}
-use Rattle.rpc_engine.specs.DatagramExchange.{Replies}
 use Rattle.rpc_engine.specs.Exchanged.{read_failures}
-use Rattle.rpc_engine.specs.declared.fault.ClientFault.TheVariants as fault
 use Rattle.rpc_engine.proofs.Ports.{Sends-trans}
+use Rattle.oncrpc_call.specs.Datagrams.{IsOther}
 use Rattle.oncrpc_call.proofs.Passing.{failed_at, no_device, over_more, spoken_at, too_many_at}
 use Rattle.oncrpc_call.proofs.datagrams.receive_reply.Goals as goal
 
@@ -13,15 +12,12 @@ pub passing-preserved : goal.passing-preserved
 passing-preserved g c =
     let inv = c.passing.invariant in
     let message : List ℕ = take c.in-Ok.n c.receive.new.array in
-    let other : (got : ℕ) × (c.reply_to-answer.result ≡ Err (fault.WrongXid got)) =
-    rw c.if-is_own.false at c.is_own.ensures in
-    let says : Replies c.args.xid message (Err (fault.WrongXid other.0)) =
-    subst (λ r. Replies c.args.xid message r) other.1 c.reply_to-answer.ensures in
+    let other : IsOther c.args.xid message = rw c.if-is_own.false at c.is_own.ensures in
     let longer = length-append inv.passed.0 (message ∷ []) in
     record {
       passed = (
         inv.passed.0 ++ message ∷ [],
-        over_more c.args.xid other.0 _ _ _ inv.passed.0 message inv.passed.1 c.in-Ok.ensures.received says,
+        over_more c.args.xid _ _ _ inv.passed.0 message inv.passed.1 c.in-Ok.ensures.received other,
         omega (arith, longer, inv.passed.2),
       );
       unsent = Sends-trans _ _ _ [] [] [] refl inv.unsent c.in-Ok.ensures.unsent;
@@ -44,12 +40,12 @@ pub returns-then-is_own : goal.returns-then-is_own
 returns-then-is_own g c =
     let inv = c.passing.invariant in
     let message : List ℕ = take c.in-Ok.n c.receive.new.array in
-    let answer = c.reply_to-answer.result in
-    let own : (got : ℕ) → answer ≡ Err (fault.WrongXid got) → ⊥ = rw c.if-is_own.true at c.is_own.ensures in
-    let quiet = no_device c.args.xid message answer c.reply_to-answer.ensures in
+    let answer = c.reply_to.result in
+    let own : IsOther c.args.xid message → ⊥ = rw c.if-is_own.true at c.is_own.ensures in
+    let quiet = no_device c.args.xid message answer c.reply_to.ensures in
     record {
       answered = spoken_at c.args.xid _ _ _ inv.passed.0 message answer own inv.passed.1 c.in-Ok.ensures.received
-          c.reply_to-answer.ensures;
+          c.reply_to.ensures;
       unsent = Sends-trans _ _ _ [] [] [] refl inv.unsent c.in-Ok.ensures.unsent;
       read = Counts-trans _ _ _ 0 0 (read_failures answer) (sym quiet.0) inv.read c.in-Ok.ensures.failed;
       write = Counts-trans _ _ _ 0 0 0 refl inv.write c.in-Ok.ensures.none_failed;

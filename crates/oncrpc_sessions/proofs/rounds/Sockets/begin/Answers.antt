@@ -6,5 +6,5 @@ returns-in_default c = λ rows. goes_none c.args.table.now rows
 
 pub returns : goal.returns
 returns c =
-    goes_open c.args.table.now c.open-opened.new.self c.open-opened.result c.open-opened.ensures.proceeds
+    goes_open _ c.args.table.now c.open-opened.new.self c.open-opened.result c.open-opened.ensures.proceeds
     c.open-opened.ensures.stays

@@ -1,13 +1,12 @@
 use Rattle.std.proofs.Common.{refl, arith, ap, drop}
-use Rattle.registry_answer.specs.Views.{netid_of}
 use Rattle.registry_sessions.proofs.Steps.{takes_record, breaks_flawed, breaks_refused}
 use Rattle.registry_sessions.proofs.session.Session.take_in.Goals as goal
 
 pub returns-in-Ok-clause-taken : goal.returns-in-Ok-clause-taken
 returns-in-Ok-clause-taken g c =
     let feeds = rw c.in-Ok-Whole.field-0-is at c.in-Ok-Whole.ensures.feeds in
-    takes_record c.args.self.now _ c.feed.new.self (netid_of c.args.transport) c.args.directory.now
-    c.answer_next.new.directory c.args.piece.now c.in-Ok-Whole.used c.in-Ok-Whole.ensures.limit
+    takes_record c.args.self.now _ c.feed.new.self c.args.directory.now c.answer_next.new.directory c.args.piece.now
+    c.in-Ok-Whole.used c.in-Ok-Whole.ensures.limit
     feeds refl refl (omega (arith, c.args.self.now.half, c.args.self.now.output.ok.0))
     c.in-Ok.ensures.ok
 

@@ -11,6 +11,7 @@ returns-in-Some-clause-proceeds g c =
       taken = c.take_in.ensures.taken;
       fault = c.take_in.ensures.fault;
       stays = c.take_in.ensures.stays;
+      same_origin = c.take_in.ensures.origin;
     }
 
 pub returns-in-Some-clause-steps : goal.returns-in-Some-clause-steps
@@ -21,4 +22,5 @@ returns-in-Some-clause-steps g c =
       taken = c.take_in.ensures.taken;
       fault = c.take_in.ensures.fault;
       stays = c.take_in.ensures.stays;
+      same_origin = c.take_in.ensures.origin;
     }

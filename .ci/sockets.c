@@ -1,0 +1,144 @@
+/* Preloaded into the built program (LD_PRELOAD): stands for the network and for the clock, and tells what is asked of
+ * them.
+ *
+ * ASKED=FILE gets a line for each: 'looks up NAME', 'connects tcp ADDRESS PORT', 'binds tcp ADDRESS PORT', the same of
+ * udp, and 'waits N' of the milliseconds that a socket's reads wait, 0 where they have no end.
+ * Each name has the address 127.0.0.1. AT=PORT: whatever is connected to is at that port of 127.0.0.1. Over TCP a free
+ * port of it is bound, and over UDP the one that is asked for. FROM=ADDRESS: who connects comes from there.
+ * The clock stands still, but that a sleep ends at once, and it is so much later then. CLOCK=FILE: its milliseconds are
+ * the eight bytes of that file, which others may change; a wait for events looks often. SILENT=1: nothing comes to a
+ * socket that is connected, and a read ends at once with the time up for which it would wait.
+ */
+#define _DEFAULT_SOURCE
+#include <arpa/inet.h>
+#include <dlfcn.h>
+#include <errno.h>
+#include <fcntl.h>
+#include <netdb.h>
+#include <stdarg.h>
+#include <stdio.h>
+#include <stdlib.h>
+#include <sys/epoll.h>
+#include <sys/mman.h>
+#include <sys/socket.h>
+#include <sys/time.h>
+#include <time.h>
+#include <unistd.h>
+#ifndef RTLD_NEXT
+#define RTLD_NEXT ((void *)-1L)
+#endif
+
+/* The C library's own function, behind the one that stands here. */
+#define OWN(name) ((__typeof__(&name))dlsym(RTLD_NEXT, #name))
+/* The milliseconds after which a wait for events looks at the clock again. */
+enum { OFTEN = 5 };
+
+extern int accept4(int, struct sockaddr *restrict, socklen_t *restrict, int);
+
+static long waits, own_moment, *moment;
+
+static void tell(const char *line, ...) {
+    const char *file = getenv("ASKED");
+    int to = file ? open(file, O_WRONLY | O_APPEND | O_CREAT, 0644) : -1;
+    if (to < 0) return;
+    va_list words;
+    va_start(words, line);
+    vdprintf(to, line, words);
+    va_end(words);
+    close(to);
+}
+
+/* The milliseconds at which the clock stands. */
+static long *now(void) {
+    const char *file = getenv("CLOCK");
+    if (moment) return moment;
+    int of = file ? open(file, O_RDWR) : -1;
+    void *there = of < 0 ? MAP_FAILED : mmap(0, sizeof *moment, PROT_READ | PROT_WRITE, MAP_SHARED, of, 0);
+    return moment = there == MAP_FAILED ? &own_moment : there;
+}
+
+int clock_gettime(clockid_t clock, struct timespec *to) {
+    if (clock != CLOCK_MONOTONIC) return OWN(clock_gettime)(clock, to);
+    to->tv_sec = 1000 + *now() / 1000;
+    to->tv_nsec = *now() % 1000 * 1000000;
+    return 0;
+}
+
+int nanosleep(const struct timespec *asked, struct timespec *left) {
+    *now() += asked->tv_sec * 1000 + asked->tv_nsec / 1000000;
+    return 0;
+}
+
+int epoll_wait(int poll, struct epoll_event *events, int most, int timeout) {
+    return OWN(epoll_wait)(poll, events, most, timeout > OFTEN ? OFTEN : timeout);
+}
+
+int getaddrinfo(const char *name, const char *service, const struct addrinfo *hints, struct addrinfo **found) {
+    tell("looks up %s\n", name ? name : "");
+    return OWN(getaddrinfo)("127.0.0.1", service, hints, found);
+}
+
+/* A socket for IPv6 is one for IPv4, since all of them are at 127.0.0.1. */
+int socket(int family, int kind, int protocol) {
+    return OWN(socket)(family == AF_INET6 ? AF_INET : family, kind, protocol);
+}
+
+/* Tells what is asked of a socket over the internet; 0 of one that is of this host alone. */
+static int is_told(const char *what, int of, const struct sockaddr *at) {
+    const struct sockaddr_in *four = (const void *)at;
+    const struct sockaddr_in6 *six = (const void *)at;
+    const void *address = at->sa_family == AF_INET ? (const void *)&four->sin_addr : &six->sin6_addr;
+    char text[INET6_ADDRSTRLEN];
+    int kind = 0;
+    socklen_t length = sizeof kind;
+    if (at->sa_family != AF_INET && at->sa_family != AF_INET6) return 0;
+    getsockopt(of, SOL_SOCKET, SO_TYPE, &kind, &length);
+    inet_ntop(at->sa_family, address, text, sizeof text);
+    tell("%s %s %s %d\n", what, kind == SOCK_STREAM ? "tcp" : "udp", text, ntohs(four->sin_port));
+    return kind;
+}
+
+static struct sockaddr_in port_of_this_host(int port) {
+    struct sockaddr_in made = {.sin_family = AF_INET, .sin_port = htons(port)};
+    made.sin_addr.s_addr = htonl(INADDR_LOOPBACK);
+    return made;
+}
+
+int connect(int from, const struct sockaddr *to, socklen_t length) {
+    const char *at = getenv("AT");
+    struct sockaddr_in there = port_of_this_host(at ? atoi(at) : 0);
+    if (!is_told("connects", from, to)) return OWN(connect)(from, to, length);
+    return OWN(connect)(from, (const struct sockaddr *)&there, sizeof there);
+}
+
+int bind(int it, const struct sockaddr *at, socklen_t length) {
+    int kind = is_told("binds", it, at);
+    if (!kind) return OWN(bind)(it, at, length);
+    struct sockaddr_in here = port_of_this_host(0);
+    if (kind == SOCK_DGRAM) here.sin_port = ((const struct sockaddr_in *)at)->sin_port;
+    return OWN(bind)(it, (const struct sockaddr *)&here, sizeof here);
+}
+
+int accept4(int at, struct sockaddr *restrict from, socklen_t *restrict length, int how) {
+    int made = OWN(accept4)(at, from, length, how);
+    const char *there = getenv("FROM");
+    if (made >= 0 && there && from && from->sa_family == AF_INET)
+        inet_pton(AF_INET, there, &((struct sockaddr_in *)from)->sin_addr);
+    return made;
+}
+
+int setsockopt(int of, int level, int name, const void *value, socklen_t length) {
+    if (level == SOL_SOCKET && name == SO_RCVTIMEO) {
+        const struct timeval *time = value;
+        waits = time->tv_sec * 1000 + time->tv_usec / 1000;
+        tell("waits %ld\n", waits);
+    }
+    return OWN(setsockopt)(of, level, name, value, length);
+}
+
+ssize_t recv(int from, void *to, size_t count, int how) {
+    if (!getenv("SILENT")) return OWN(recv)(from, to, count, how);
+    *now() += waits;
+    errno = EAGAIN;
+    return -1;
+}

@@ -1,5 +1,0 @@
-pub mod Counts
-pub mod Only
-pub mod File
-pub mod Entries
-pub mod Listed

@@ -1,7 +1,0 @@
-use Rattle.example_bounds.proofs.Only.{none_told}
-use Rattle.example_bounds.proofs.answers.no_kind.Goals as goal
-
-pub returns : goal.returns
-returns c =
-    none_told c.args.schema.now.kinds c.in_ok-bounds.bounds c.args.id.place c.range.result c.in_ok-bounds.ensures
-    c.requires c.range.ensures.at

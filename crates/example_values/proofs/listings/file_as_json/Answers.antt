@@ -1,0 +1,6 @@
+use Rattle.xdr_lang.specs.Views.{declared_of}
+use Rattle.example_values.proofs.Listed.{file_as_json}
+use Rattle.example_values.proofs.listings.file_as_json.Goals as goal
+
+pub returns : goal.returns
+returns c = file_as_json (declared_of c.args.declared.now) _ c.requires c.in_ok-text.ensures

@@ -1,0 +1,50 @@
+//! What a registry's sockets hold at most.
+ghost use Rattle.std.specs.Prelude.{◌≡◌, nat_lt};
+ghost use Rattle.oncrpc_sessions.specs.Places.{local_places, most_open};
+
+use std::time::Duration;
+
+/// How many connections may be open at a time over the Unix socket.
+const LOCAL_PLACES: usize = 16;
+
+/// What a registry's sockets hold at most.
+#[derive(Clone, Copy, Debug, PartialEq, Eq)]
+pub struct Bounds {
+    /// How many connections over TCP may be open at a time. The Unix socket has 16 places beside them. Others wait, and
+    /// none of them is refused.
+    pub connections: usize,
+    /// How long a connection may stay that makes no call and takes nothing of its replies.
+    pub idle: Duration,
+    /// SET and UNSET of callers of other hosts are taken.
+    pub trusts_remote: bool,
+}
+
+impl Bounds {
+    /// How many connections may be open at a time in all: 16 more than over TCP, and at most 2^64 - 1.
+    pub fn most(&self) -> usize
+        ensures { result ≡ most_open self.now.connections }
+    {
+        self.connections.saturating_add(LOCAL_PLACES)
+    }
+}
+
+/// Where one more connection has a place.
+#[derive(Clone, Copy, Debug, PartialEq, Eq)]
+pub struct Room {
+    /// Over TCP.
+    pub tcp: bool,
+    /// Over the Unix socket.
+    pub local: bool,
+}
+
+/// Where one more connection has a place, while so many are open over TCP and over the Unix socket.
+pub fn room_within(bounds: Bounds, tcp: usize, local: usize) -> Room
+    // Neither takes a place of the other.
+    ensures tcp { result.tcp ≡ nat_lt tcp bounds.connections }
+    ensures local { result.local ≡ nat_lt local local_places }
+{
+    Room {
+        tcp: tcp < bounds.connections,
+        local: local < LOCAL_PLACES,
+    }
+}

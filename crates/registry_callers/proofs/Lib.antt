@@ -1,0 +1,13 @@
+pub mod Tests
+pub mod Holding
+pub mod LookUps
+pub mod Making
+pub mod Texts
+pub mod Written
+pub mod Owning
+pub mod Told
+pub mod Asked
+pub mod Same
+pub mod Some
+pub mod Kept
+pub mod Superusers

@@ -1,3 +1,0 @@
-//! Random calls of the registry beside a plain list.
-mod calls;
-mod random;
