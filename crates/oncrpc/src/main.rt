@@ -6,6 +6,7 @@
 //!   no call. `pinging` calls procedure 0 of a program.
 //! - `reaching` makes the call, at the port that a registry tells (`ports`), and `timed` waits no longer than that;
 //!   `unreached` says why there is no answer.
+//! - `watching` reads what peers said, by what the `installed` texts declare.
 //! - `network` asks a registry, and serves one to so many clients; `keeping` serves one as long as the program runs.
 #![tactic(auto)]
 
@@ -13,6 +14,7 @@ mod arguments;
 mod asking;
 mod calling;
 mod files;
+mod installed;
 mod keeping;
 mod network;
 mod pinging;
@@ -22,6 +24,7 @@ mod run;
 mod timed;
 mod unmade;
 mod unreached;
+mod watching;
 
 use std::process::ExitCode;
 

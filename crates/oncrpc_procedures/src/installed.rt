@@ -8,7 +8,7 @@ use crate::parts::is_meant;
 use xdr_units::before_dot;
 
 /// Programs whose declarations are installed, by number and by the name of their text.
-const INSTALLED: [(u32, &str); 8] = [
+pub const INSTALLED: [(u32, &str); 8] = [
     (100000, "rpcbind"),
     (100003, "nfs"),
     (100004, "yp"),

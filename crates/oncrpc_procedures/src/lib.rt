@@ -20,7 +20,7 @@ mod search;
 mod unnamed;
 mod unnamed_program;
 
-pub use installed::installed_text;
+pub use installed::{INSTALLED, installed_text};
 pub use laws::names_have_one_reading;
 pub use named::{Named, procedure_named};
 pub use program::{NamedProgram, program_named};

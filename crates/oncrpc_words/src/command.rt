@@ -1,7 +1,7 @@
 //! The commands and their options, as `clap` reads them.
 use super::tables::{
-    OF_CALL, OF_CHECK, OF_ENCODE, OF_INFO, OF_PING, OF_RECORDS, OF_SERVE, OF_SHOW, OF_TYPES, Taken,
-    Word,
+    OF_CALL, OF_CHECK, OF_ENCODE, OF_INFO, OF_MESSAGES, OF_PING, OF_RECORDS, OF_SERVE, OF_SHOW,
+    OF_TYPES, Taken, Word,
 };
 use super::{after, help};
 use clap::{Arg, ArgAction, Command, value_parser};
@@ -51,6 +51,7 @@ fn commands<'a>(alloc: Global) -> Result<Vec<Command<'a>>, AllocError> {
     commands.push(encode(alloc)?)?;
     commands.push(types(alloc)?)?;
     commands.push(records(alloc)?)?;
+    commands.push(messages(alloc)?)?;
     commands.push(info(alloc)?)?;
     commands.push(call(alloc)?)?;
     commands.push(ping(alloc)?)?;
@@ -87,6 +88,16 @@ fn records<'a>(alloc: Global) -> Result<Command<'a>, AllocError> {
         help::RECORDS,
         after::AFTER_RECORDS,
         &OF_RECORDS,
+    )
+}
+
+fn messages<'a>(alloc: Global) -> Result<Command<'a>, AllocError> {
+    part(
+        alloc,
+        "messages",
+        help::MESSAGES,
+        after::AFTER_MESSAGES,
+        &OF_MESSAGES,
     )
 }
 

@@ -33,6 +33,15 @@ pub const LIST: &str = "Prints what files declare, and how many bytes the values
 /// What `records` does.
 pub const RECORDS: &str = "Writes each record of standard input as one fragment";
 
+/// What `messages` does.
+pub const MESSAGES: &str = "Prints the calls and replies of standard input and judges them";
+
+/// The file with the other direction.
+pub const REPLIES: &str = "The file with the other direction of the connection";
+
+/// Messages as JSON.
+pub const JSON_MESSAGES: &str = "Print an object of JSON on a line for each message";
+
 /// What `info` does.
 pub const INFO: &str = "Asks the registry of a host for its rows and prints them";
 

@@ -11,6 +11,8 @@ pub enum Request {
     Encode(ValueTask),
     /// Print what texts declare.
     Types(TypesTask),
+    /// Print the messages of a stream of records.
+    Messages(MessagesTask),
     /// Print the rows of a registry.
     Info(InfoTask),
     /// Call a procedure of a server, and print its result.
@@ -21,6 +23,17 @@ pub enum Request {
     Serve(ServeTask),
     /// Serve a registry to many clients at once, without an end.
     Keep(KeepTask),
+}
+
+/// Messages to be read from the input.
+#[derive(PartialEq, Eq, Drop)]
+pub struct MessagesTask {
+    /// The texts that declare programs.
+    pub types: Texts,
+    /// The file with the other direction, where it is given.
+    pub replies: Option<String>,
+    /// Whether each message is a line of JSON.
+    pub json: bool,
 }
 
 /// A registry that is asked for its rows.

@@ -86,6 +86,15 @@ pub const OF_RECORDS: [Word; 2] = [
     Word::Flag("hex", help::HEX),
 ];
 
+/// The words of `messages`.
+pub const OF_MESSAGES: [Word; 5] = [
+    Word::Repeated("types", "FILE", help::TYPES, Taken::Text, &[]),
+    Word::Beside("dialect", "DIALECT", help::DIALECT, Taken::Dialect, "types"),
+    Word::Repeated("define", "NAME", help::DEFINE, Taken::Text, &["dialect"]),
+    Word::Optional("replies", "FILE", help::REPLIES, Taken::Text, &[]),
+    Word::Flag("json", help::JSON_MESSAGES),
+];
+
 /// The words of `info`.
 pub const OF_INFO: [Word; 5] = [
     Word::Placed("host", "HOST", help::HOST, Taken::Text),

@@ -165,12 +165,20 @@ const OF_SERVE: [&str; 22] = [
     "\n    $ oncrpc serve --port 111",
 ];
 
-const OF_ALL: [&str; 17] = [
+const OF_MESSAGES: [&str; 4] = [
+    "\n  call XID P.V.N NAME FLAVOR",
+    "\n  refused WHY at N",
+    "\n  0  nothing is refused\n",
+    "\n    $ (printf",
+];
+
+const OF_ALL: [&str; 18] = [
     "check",
     "show",
     "encode",
     "types",
     "records",
+    "messages",
     "info",
     "call",
     "ping",
@@ -189,7 +197,7 @@ const OF_ALL: [&str; 17] = [
 const OF_VERSION: [&str; 1] = ["oncrpc 0.1.0\nproved with logic dac8208d650f15bf\n"];
 
 // Words, and what their answer says.
-const SAID: [(Words, &[&str]); 15] = [
+const SAID: [(Words, &[&str]); 16] = [
     (&["check", "--help"], &OF_A_VALUE),
     (&["help", "check"], &OF_OUTCOMES),
     (&["show", "--help"], &OF_A_VALUE),
@@ -198,6 +206,7 @@ const SAID: [(Words, &[&str]); 15] = [
     (&["help", "encode"], &OF_ENCODE),
     (&["help", "types"], &OF_TYPES),
     (&["records", "--help"], &OF_RECORDS),
+    (&["help", "messages"], &OF_MESSAGES),
     (&["info", "--help"], &OF_INFO),
     (&["help", "call"], &OF_CALL),
     (&["ping", "--help"], &OF_PING),

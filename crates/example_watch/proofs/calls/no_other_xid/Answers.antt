@@ -1,0 +1,12 @@
+use Rattle.std.proofs.Common.{◌≡◌, None, ◌∙◌, arith, inl, inr}
+use Rattle.oncrpc_watch.specs.Waiting.{waiting}
+use Rattle.example_watch.proofs.calls.no_other_xid.Goals as goal
+
+pub returns : goal.returns
+returns c =
+    let empty = c.new-table.ensures.empty 3 8 in
+    let other = c.in_ok-note.ensures.others 3 8 (omega arith, λ e. omega (arith, e.1)) in
+    c.take.ensures.found ∙ elim other [
+      | inl same ↦ same ∙ empty
+      | inr none ↦ none
+    ]

@@ -1,0 +1,38 @@
+//! What peers said, read and judged.
+ghost use Rattle.std.specs.Prelude.{◌≤◌};
+
+use crate::files::FileOpener;
+use crate::installed::installed_texts;
+use oncrpc_answers::{Failure, report};
+use oncrpc_watch::{Known, messages_over};
+use oncrpc_words::MessagesTask;
+use xdr_io::{FromRead, Sink};
+
+/// The messages of standard input, to standard output.
+pub fn messages<O: Sink, F: Sink>(
+    rt: &HostRuntime,
+    what: MessagesTask,
+    output: &mut O,
+    faults: &mut F,
+) -> u8
+    ensures { result ≤ 4 }
+{
+    let Ok(mut opener) = FileOpener::new(rt) else {
+        return report(Failure::NoMemory, faults);
+    };
+    let texts = match installed_texts(rt, &what.types) {
+        Ok(texts) => texts,
+        Err(failure) => return report(failure, faults),
+    };
+    let known = Known {
+        alloc: rt.alloc(),
+        texts: &texts,
+    };
+    let task = oncrpc_watch::MessagesTask {
+        types: what.types,
+        replies: what.replies,
+        json: what.json,
+    };
+    let mut input = FromRead::new(rt.stdin());
+    messages_over(known, &task, &mut opener, &mut input, output, faults)
+}

@@ -1,0 +1,3 @@
+pub mod Encoded
+pub mod Known
+pub mod Valued

@@ -1,0 +1,11 @@
+pub mod Asked
+pub mod Bodies
+pub mod Canonical
+pub mod Closing
+pub mod Heads
+pub mod Lines
+pub mod Messages
+pub mod Private
+pub mod Refusals
+pub mod Settings
+pub mod Values

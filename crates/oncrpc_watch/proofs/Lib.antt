@@ -1,0 +1,6 @@
+pub mod Answered
+pub mod Closed
+pub mod Joined
+pub mod Recalled
+pub mod Streamed
+pub mod Texts

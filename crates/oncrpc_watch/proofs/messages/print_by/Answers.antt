@@ -1,0 +1,20 @@
+use Rattle.std.proofs.Common.{ap, subst, ◌∙◌}
+use Rattle.oncrpc_watch.specs.MessagesEnd.{PrintsBoth, PrintsInput}
+use Rattle.oncrpc_watch.specs.Terms.{terms_of}
+use Rattle.oncrpc_watch.proofs.messages.print_by.Goals as goal
+
+pub returns-in-None-clause-prints : goal.returns-in-None-clause-prints
+returns-in-None-clause-prints g c = rw c.in-None.is (record {
+  heads = c.in_ok-heads.heads;
+  are_heads = c.in_ok-heads.ensures;
+  prints = subst (λ t. PrintsInput t _ _ _ _) (ap terms_of c.new-watch.ensures.terms ∙ c.terms_by-terms.ensures)
+      c.in_ok-status-in-None.ensures.prints;
+})
+
+pub returns-clause-prints : goal.returns-clause-prints
+returns-clause-prints g c = rw c.in-Some.is (record {
+  heads = c.in_ok-heads.heads;
+  are_heads = c.in_ok-heads.ensures;
+  prints = subst (λ t. PrintsBoth t _ _ _ _ _) (ap terms_of c.new-watch.ensures.terms ∙ c.terms_by-terms.ensures)
+      c.in_ok-printed-in-Some.ensures.prints;
+})

@@ -1,0 +1,11 @@
+pub mod Counted
+pub mod Events
+pub mod Heard
+pub mod Lines
+pub mod MessagesEnd
+pub mod Private
+pub mod Represents
+pub mod Run
+pub mod Streams
+pub mod Terms
+pub mod Waiting

@@ -1,0 +1,162 @@
+//! The messages of a stream of records, printed and judged.
+ghost use Rattle.std.specs.Prelude.{◌≡◌, ◌≤◌, ℕ, List, Option, IfOk};
+ghost use Rattle.xdr_lang.specs.Views.{declared_of};
+ghost use Rattle.oncrpc_messages.specs.Heads.{heads_of};
+ghost use Rattle.oncrpc_watch.specs.MessagesEnd.{MessagesEnd, PrintsBoth, PrintsInput, form_of, terms_in};
+ghost use Rattle.oncrpc_watch.specs.Private.Steps.{Closes, IsOpened, PrintsBy};
+ghost use Rattle.oncrpc_watch.specs.Represents.{IsAt};
+ghost use Rattle.oncrpc_watch.specs.Run.{nothing};
+ghost use Rattle.oncrpc_watch.specs.Terms.{each_declared, terms_of};
+
+use crate::both::tell_both;
+use crate::counts::counts_line;
+use crate::stream::Stream;
+use crate::task::{Known, MessagesTask};
+use crate::terms::Terms;
+use crate::watch::Watch;
+use oncrpc_answers::{Failure, report};
+use oncrpc_messages::{Form, Heads, read_heads};
+use oncrpc_tasks::{Opener, declared, refuse_texts};
+use std::alloc::Global;
+use xdr_io::{Sink, Source, write_whole};
+use xdr_lang::Declared;
+use xdr_types::Limits;
+
+/// Prints each message of the input, and of the file with the other direction, and a closing line of counts. A reply is
+/// read by the kinds of the call of its xid. With a second file its messages are printed as soon as their calls are
+/// known: the input is read on for that while at most 65536 calls wait. The status is 0, or 1 where anything was
+/// refused. It is 2 for texts that are refused, 3 where a device failed, and 4 for an allocation failure.
+pub fn messages_over<P: Opener, I: Source, O: Sink, F: Sink>(
+    known: Known<'_>,
+    what: &MessagesTask,
+    opener: &mut P,
+    input: &mut I,
+    output: &mut O,
+    faults: &mut F,
+) -> u8
+    ensures { MessagesEnd (each_declared known.entry.texts.now) (P.reported opener.old) what.now (I.left input.old) O.taken output.old output.new result }
+{
+    let other = match replies_of(what, opener) {
+        Ok(other) => other,
+        Err(failure) => return report(failure, faults),
+    };
+    let declared = match declared(known.alloc, &what.types, opener) {
+        Ok(declared) => declared,
+        Err(why) => return refuse_texts(known.alloc, why, &what.types.files, faults),
+    };
+    match print_by(known, &declared, what.json, input, other, output) {
+        Ok(status) => status,
+        Err(failure) => report(failure, faults),
+    }
+}
+
+// The file with the other direction, where one is named.
+fn replies_of<P: Opener>(what: &MessagesTask, opener: &mut P) -> Result<Option<P::Text>, Failure>
+    ensures opened { IfOk result (λ text. IsOpened P.Text.left (P.reported opener.old) what.now.replies text) }
+    ensures same { P.reported opener.new ≡ P.reported opener.old }
+{
+    match &what.replies {
+        None => Ok(None),
+        Some(name) => match opener.open(name.as_str()) {
+            Ok(text) => Ok(Some(text)),
+            Err(_) => Err(Failure::Read),
+        },
+    }
+}
+
+// The messages, by what is declared.
+fn print_by<I: Source, R: Source + Drop, O: Sink>(
+    known: Known<'_>,
+    declared: &Declared,
+    json: bool,
+    input: &mut I,
+    other: Option<R>,
+    output: &mut O,
+) -> Result<u8, Failure>
+    ensures few { IfOk result (λ status. status ≤ 1) }
+    ensures prints { IfOk result (λ status. PrintsBy R.left (each_declared known.entry.texts.now)
+        (declared_of declared.now) json other (I.left input.old) (O.taken output.old)
+        (O.taken output.new) status) }
+{
+    let heads = read_heads(known.alloc)?;
+    let terms = terms_by(known, declared, &heads, json);
+    let mut watch = Watch::new(known.alloc, &terms);
+    match other {
+        None => {
+            let status = print_one(known.alloc, &mut watch, input, output)?;
+            Ok(status)
+        }
+        Some(other) => {
+            let printed = print_both(known.alloc, &mut watch, input, other, output)?;
+            Ok(printed)
+        }
+    }
+}
+
+// By what messages are judged and printed.
+fn terms_by<'a>(known: Known<'a>, declared: &'a Declared, heads: &'a Heads, json: bool) -> Terms<'a>
+    ensures { terms_of result ≡ terms_in (each_declared known.entry.texts.now) (declared_of declared.now)
+        (heads_of heads.now) json }
+{
+    Terms {
+        declared,
+        known: known.texts,
+        heads,
+        limits: Limits::new(4096, 16777216).unwrap(),
+        form: form_of(json),
+    }
+}
+
+fn form_of(json: bool) -> Form
+    ensures { result ≡ form_of json }
+{
+    if json { Form::Json } else { Form::Lines }
+}
+
+// The messages of the input.
+fn print_one<I: Source, O: Sink>(
+    alloc: Global,
+    watch: &mut Watch<'_>,
+    input: &mut I,
+    output: &mut O,
+) -> Result<u8, Failure>
+    requires { IsAt watch.old nothing }
+    ensures few { IfOk result (λ status. status ≤ 1) }
+    ensures prints { IfOk result (λ status. PrintsInput (terms_of watch.old.terms) (I.left input.old) (O.taken output.old) (O.taken output.new) status) }
+{
+    let mut calls = Stream::new(alloc, "input", input);
+    calls.tell_all(watch, output)?;
+    let status = close(alloc, watch, output)?;
+    Ok(status)
+}
+
+// Those of the input and of the other direction.
+fn print_both<I: Source, R: Source + Drop, O: Sink>(
+    alloc: Global,
+    watch: &mut Watch<'_>,
+    input: &mut I,
+    other: R,
+    output: &mut O,
+) -> Result<u8, Failure>
+    requires { IsAt watch.old nothing }
+    ensures few { IfOk result (λ status. status ≤ 1) }
+    ensures prints { IfOk result (λ status. PrintsBoth (terms_of watch.old.terms)
+        (I.left input.old) (R.left other) (O.taken output.old) (O.taken output.new) status) }
+{
+    let mut calls = Stream::new(alloc, "input", input);
+    let mut replies = Stream::new(alloc, "replies", other);
+    tell_both(watch, &mut calls, &mut replies, output)?;
+    let status = close(alloc, watch, output)?;
+    Ok(status)
+}
+
+// The closing line, and the status.
+fn close<O: Sink>(alloc: Global, watch: &Watch<'_>, output: &mut O) -> Result<u8, Failure>
+    ensures few { IfOk result (λ status. status ≤ 1) }
+    ensures closes { IfOk result (λ status. Closes watch.now (O.taken output.old) (O.taken output.new) status) }
+{
+    let counts = watch.counts();
+    let line = counts_line(alloc, watch.form(), counts)?;
+    write_whole(output, line.as_bytes())?;
+    Ok(if counts.refused == 0 { 0 } else { 1 })
+}

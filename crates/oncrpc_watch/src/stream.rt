@@ -1,0 +1,209 @@
+//! One direction of a connection.
+ghost use Rattle.std.specs.Prelude.{◌≡◌, ◌<◌, ◌∷◌, [], true, false, IfOk, OnOk};
+ghost use Rattle.rpc_record.specs.Streamed.{most_to_come};
+ghost use Rattle.oncrpc_watch.specs.Events.{Ends, Record};
+ghost use Rattle.oncrpc_watch.specs.Private.Steps.{GoesOn, IsStanding, Prints, Reads, Stands, TellsOn, came, is_last};
+ghost use Rattle.oncrpc_watch.specs.Private.Steps.{reached};
+
+use crate::ending::{Ending, ending_line, ending_of};
+use crate::placed::Placed;
+use crate::watch::Watch;
+use oncrpc_answers::Failure;
+use oncrpc_messages::{Verdict, close_page};
+use rpc_record::RecordStream;
+use std::alloc::Global;
+use xdr_io::{Sink, Source, write_whole};
+
+/// The way of all messages of a connection.
+pub const WAY: u32 = 0;
+
+/// The most bytes of a record: a head, and 16777216 bytes of arguments or results.
+pub const MOST_RECORD: u32 = 16781312;
+
+/// One direction: its records, one after another.
+#[derive(Drop)]
+pub struct Stream<R> {
+    alloc: Global,
+    /// What it is called where it is refused.
+    name: &'static str,
+    source: Placed<R>,
+    records: RecordStream,
+    /// The record at work.
+    pub record: Vec<u8>,
+    /// Whether it has ended.
+    ended: bool,
+}
+
+/// What comes of a read.
+#[derive(Clone, Copy)]
+pub enum Come {
+    /// A record.
+    Record,
+    /// The end between two records.
+    End,
+    /// What is refused.
+    Refused(Ending),
+}
+
+impl<R: Source> Stream<R> {
+    /// Before the first read.
+    pub fn new(alloc: Global, name: &'static str, source: R) -> Stream<R>
+        ensures stands { Stands (reached result.ended result.records result.name.now (R.left result.source.source))
+            (R.left source) [] }
+        ensures name { result.name.now ≡ name.now }
+    {
+        Stream {
+            alloc,
+            name,
+            source: Placed::new(alloc, source),
+            records: RecordStream::start(alloc, MOST_RECORD),
+            record: Vec::new(alloc),
+            ended: false,
+        }
+    }
+
+    /// Reads the next record. False: there is none. Where the stream is refused, that is printed.
+    pub fn next<O: Sink>(&mut self, watch: &mut Watch<'_>, output: &mut O) -> Result<bool, Failure>
+        requires standing { IsStanding
+            (reached self.old.ended self.old.records self.old.name.now (R.left self.old.source.source)) }
+        ensures reads { IfOk result (λ more. Reads more
+            (reached self.old.ended self.old.records self.old.name.now (R.left self.old.source.source))
+            (reached self.new.ended self.new.records self.new.name.now (R.left self.new.source.source))
+            self.new.record.items watch.old watch.new (O.taken output.old) (O.taken output.new)) }
+        ensures fewer { IfOk result (λ more. more ≡ true
+            → most_to_come self.new.records < most_to_come self.old.records) }
+    {
+        if self.ended {
+            return Ok(false);
+        }
+        match self.read()? {
+            Come::Record => Ok(true),
+            Come::End => Ok(false),
+            Come::Refused(ending) => {
+                self.refuse(ending, watch, output)?;
+                Ok(false)
+            }
+        }
+    }
+
+    // Reads the next record of a stream that has not ended.
+    fn read(&mut self) -> Result<Come, Failure>
+        requires begun { self.old.ended ≡ false }
+        requires standing { IsStanding
+            (reached self.old.ended self.old.records self.old.name.now (R.left self.old.source.source)) }
+        ensures on { IfOk result (λ k. GoesOn
+            (reached self.old.ended self.old.records self.old.name.now (R.left self.old.source.source))
+            (reached self.new.ended self.new.records self.new.name.now (R.left self.new.source.source))
+            (came k self.old.name.now self.new.record.items)) }
+        ensures ended { IfOk result (λ k. self.new.ended ≡ is_last k) }
+        ensures name { self.new.name ≡ self.old.name }
+        ensures fewer { IfOk result (λ k. is_last k ≡ false
+            → most_to_come self.new.records < most_to_come self.old.records) }
+    {
+        self.source.begin();
+        match self
+            .records
+            .next_record_into(&mut self.source, &mut self.record)
+        {
+            Ok(true) => Ok(Come::Record),
+            Ok(false) => {
+                self.ended = true;
+                Ok(Come::End)
+            }
+            Err(fault) => {
+                self.ended = true;
+                let ending = ending_of(fault)?;
+                Ok(Come::Refused(ending))
+            }
+        }
+    }
+
+    // Prints that the stream is refused.
+    fn refuse<O: Sink>(
+        &self,
+        ending: Ending,
+        watch: &mut Watch<'_>,
+        output: &mut O,
+    ) -> Result<(), Failure>
+        ensures { OnOk result (Prints watch.old watch.new (Ends self.now.name.now ending ∷ []) (O.taken output.old)
+            (O.taken output.new)) }
+    {
+        watch.refuse();
+        let line = ending_line(self.alloc, watch.form(), self.name, ending)?;
+        write_whole(output, line.as_bytes())?;
+        Ok(())
+    }
+
+    /// Prints the record at work.
+    pub fn tell<O: Sink>(&mut self, watch: &mut Watch<'_>, output: &mut O) -> Result<(), Failure>
+        ensures prints { OnOk result (Prints watch.old watch.new (Record self.old.record.items ∷ [])
+            (O.taken output.old) (O.taken output.new)) }
+        ensures same { (reached self.new.ended self.new.records self.new.name.now (R.left self.new.source.source))
+            ≡ (reached self.old.ended self.old.records self.old.name.now (R.left self.old.source.source)) }
+    {
+        self.source.take_record()?;
+        let record = self.record.as_slice();
+        let told = watch.tell(WAY, 0, record)?;
+        let place = self.place_of(told.page.verdict);
+        let text = close_page(self.alloc, watch.form(), told.page, place)?;
+        let bytes = text.as_slice();
+        write_whole(output, bytes)?;
+        Ok(())
+    }
+
+    // The place in the stream of what is refused of the record at work, or 0.
+    fn place_of(&self, verdict: Verdict) -> u64 {
+        match verdict {
+            Verdict::Refused(refusal) => self.source.place_of(refusal.at),
+            Verdict::Canonical | Verdict::Unjudged => 0,
+        }
+    }
+
+    /// Reads the next record and prints it. False: there is none.
+    pub fn tell_next<O: Sink>(
+        &mut self,
+        watch: &mut Watch<'_>,
+        output: &mut O,
+    ) -> Result<bool, Failure>
+        requires standing { IsStanding
+            (reached self.old.ended self.old.records self.old.name.now (R.left self.old.source.source)) }
+        ensures tells { OnOk result (TellsOn
+            (reached self.old.ended self.old.records self.old.name.now (R.left self.old.source.source))
+            (reached self.new.ended self.new.records self.new.name.now (R.left self.new.source.source))
+            watch.old watch.new (O.taken output.old) (O.taken output.new)) }
+        ensures ended { IfOk result (λ more. more ≡ false → self.new.ended ≡ true) }
+        ensures fewer { IfOk result (λ more. more ≡ true
+            → most_to_come self.new.records < most_to_come self.old.records) }
+    {
+        match self.next(watch, output) {
+            Ok(true) => {}
+            Ok(false) => return Ok(false),
+            Err(failure) => return Err(failure),
+        }
+        self.tell(watch, output)?;
+        Ok(true)
+    }
+
+    /// Reads all records and prints them.
+    pub fn tell_all<O: Sink>(
+        &mut self,
+        watch: &mut Watch<'_>,
+        output: &mut O,
+    ) -> Result<(), Failure>
+        requires standing { IsStanding
+            (reached self.old.ended self.old.records self.old.name.now (R.left self.old.source.source)) }
+        ensures tells { OnOk result (TellsOn
+            (reached self.old.ended self.old.records self.old.name.now (R.left self.old.source.source))
+            (reached self.new.ended self.new.records self.new.name.now (R.left self.new.source.source))
+            watch.old watch.new (O.taken output.old) (O.taken output.new)) }
+        ensures ended { OnOk result (self.new.ended ≡ true) }
+    {
+        'records: loop {
+            match self.tell_next(watch, output) {
+                Ok(true) => {}
+                Ok(false) => return Ok(()),
+                Err(failure) => return Err(failure),
+            }
+        }
+    }
+}

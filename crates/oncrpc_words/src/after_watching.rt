@@ -1,0 +1,32 @@
+//! What help says behind the options of the command that reads what peers said.
+
+/// What `messages` prints, its statuses and an example of it.
+pub const AFTER_MESSAGES: &str =
+    "Output: a line for each message of the records of standard input (RFC 5531 sections
+9 and 11), below it the lines of its arguments or results, as 'oncrpc show' prints
+them, and a closing line of counts; with --json an object on a line for each.
+  call XID P.V.N NAME FLAVOR      a call; of AUTH_SYS its fields follow as JSON
+  reply XID P.V.N NAME STATUS     a reply to a call that was read before
+  reply XID no call STATUS        a reply to none
+  record                          neither
+  .., N bytes                     arguments or results that no text declares
+  refused WHY at N                the message is refused at byte N of its stream:
+                                  'oncrpc help check' has WHY, and MoreFollows is
+                                  bytes behind all that is to be there
+  input refused WHY at N          the records end inside one, or one is too long
+
+A reply is read by the type of the call of its xid. With --replies the other
+direction is read beside the input, and a reply is printed behind its call.
+
+Exit status:
+  0  nothing is refused
+  1  something is
+  2  words or declarations are refused
+  3  a read or a write failed
+  4  memory was refused
+
+Example:
+    $ (printf '\\200\\0\\0(\\0\\0\\0\\7\\0\\0\\0\\0\\0\\0\\0\\2\\0\\1\\206\\240\\0\\0\\0\\2'; \
+     head -c 20 /dev/zero) | oncrpc messages
+    call 7 100000.2.0 NULL AUTH_NONE
+    calls 1 replies 0 others 0 refused 0 unjudged 0 unasked 0";
