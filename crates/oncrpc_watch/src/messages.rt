@@ -34,7 +34,8 @@ pub fn messages_over<P: Opener, I: Source, O: Sink, F: Sink>(
     output: &mut O,
     faults: &mut F,
 ) -> u8
-    ensures { MessagesEnd (each_declared known.entry.texts.now) (P.reported opener.old) what.now (I.left input.old) O.taken output.old output.new result }
+    ensures { MessagesEnd (each_declared known.entry.texts.now) (P.reported opener.old) what.now
+        (I.left input.old) O.taken output.old output.new result }
 {
     let other = match replies_of(what, opener) {
         Ok(other) => other,
@@ -122,7 +123,8 @@ fn print_one<I: Source, O: Sink>(
 ) -> Result<u8, Failure>
     requires { IsAt watch.old nothing }
     ensures few { IfOk result (λ status. status ≤ 1) }
-    ensures prints { IfOk result (λ status. PrintsInput (terms_of watch.old.terms) (I.left input.old) (O.taken output.old) (O.taken output.new) status) }
+    ensures prints { IfOk result (λ status. PrintsInput (terms_of watch.old.terms)
+        (I.left input.old) (O.taken output.old) (O.taken output.new) status) }
 {
     let mut calls = Stream::new(alloc, "input", input);
     calls.tell_all(watch, output)?;

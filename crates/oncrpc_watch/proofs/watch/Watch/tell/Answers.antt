@@ -4,8 +4,8 @@ use Rattle.oncrpc_watch.proofs.watch.Watch.tell.Goals as goal
 pub returns-clause-told : goal.returns-clause-told
 returns-clause-told c = λ s h. record {
   program = c.program_of.result;
-  answers = answers_of _ c.args.self.now.table s.history c.args.way c.args.record.now _ _ _ _ h.0 c.call_of-asked.ensures
-      c.in_ok-page.ensures;
+  answers = answers_of _ c.args.self.now.table s.history c.args.way c.args.record.now _ _ _ _ h.0
+      c.call_of-asked.ensures c.in_ok-page.ensures;
   is_program = is_program _ c.args.record.now _ _ _ _ c.program_of.result c.program_of.ensures.call
       c.program_of.ensures.reply c.in_ok-page.ensures;
   tells = rw c.settings-settings.ensures at c.in_ok-page.ensures;
