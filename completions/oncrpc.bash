@@ -63,7 +63,7 @@ _oncrpc() {
         --types) compopt -o filenames && mapfile -t COMPREPLY < <(compgen -f -- "$word") ;;
         --dialect) mapfile -t COMPREPLY < <(compgen -W "rpcgen" -- "$word") ;;
         --define) : ;;
-        --replies) : ;;
+        --replies) compopt -o filenames && mapfile -t COMPREPLY < <(compgen -f -- "$word") ;;
         *) mapfile -t COMPREPLY < <(compgen -W "--types --dialect --define --replies --json --help" -- "$word") ;;
         esac
         ;;
