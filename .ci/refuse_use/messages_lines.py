@@ -1,54 +1,24 @@
 """Rows of 'oncrpc messages': streams worked by hand, and the connections of a capture, whose procedures tshark names."""
 import os
 import shutil
-import struct
 import subprocess
 
+from refuse_use.messages_hostile import hostile_rows
+from refuse_use.messages_long import further_rows
+from refuse_use.messages_recorded import recorded_rows
+from refuse_use.messages_streams import ROOT, RPCBIND, Sweep, call, counts, fragment, reply, sys_body, words
 from refuse_use.packets import connections
-
-ROOT = os.path.dirname(os.path.dirname(os.path.dirname(os.path.realpath(__file__))))
-RPCBIND, NFS = f"--types {ROOT}/share/oncrpc/rpcbind.x", f"--types {ROOT}/share/oncrpc/nfs.x"
-
-
-def words(*numbers):
-    return struct.pack(f">{len(numbers)}I", *numbers)
-
-
-def fragment(content, last=True):
-    """A fragment with this content (RFC 5531 section 11)."""
-    return words(len(content) + (last << 31)) + content
-
-
-def opaque(content):
-    return words(len(content)) + content + bytes(-len(content) % 4)
-
-
-def call(xid, program, version, procedure, arguments=b"", flavor=0, body=b""):
-    """A call, whose verifier is AUTH_NONE (RFC 5531 section 9)."""
-    return words(xid, 0, 2, program, version, procedure, flavor) + opaque(body) + words(0, 0) + arguments
-
-
-def reply(xid, *status, results=b""):
-    """An accepted reply, whose verifier is AUTH_NONE."""
-    return words(xid, 1, 0, 0, 0, *status) + results
-
 
 GETPORT = call(8, 100000, 2, 3, words(100003, 3, 6, 0))
 GETPORT_LINES = b"call 8 100000.2.3 GETPORT AUTH_NONE\nstruct\n  prog: 100003\n  vers: 3\n  prot: 6\n  port: 0\n"
 SET = call(9, 100000, 2, 1, words(7, 1, 6, 99))
 # A body of AUTH_SYS (RFC 5531 appendix A), and one whose padding is not zero.
-SYS = words(5) + opaque(b"box") + words(10, 20, 2, 30, 40)
+SYS = sys_body(b"box", 30, 40)
 UNPADDED = SYS.replace(b"box\0", b"box!")
-
-
-def counts(calls, replies, others, refused, unjudged, unasked):
-    numbers = (calls, replies, others, refused, unjudged, unasked)
-    return b"calls %d replies %d others %d refused %d unjudged %d unasked %d\n" % numbers
 
 
 # What rows are about, the words, the input, the status and the output.
 ROWS = [
-    ("an empty stream", RPCBIND, b"", 0, counts(0, 0, 0, 0, 0, 0)),
     (
         "a call and its reply",
         RPCBIND,
@@ -171,11 +141,11 @@ BOTH = [
 ]
 
 
-def named(folder):
+def named(program, folder):
     """The messages of each connection of a capture, both directions, as they are printed: xid, procedure, name."""
     captures = f"{ROOT}/tests/captures"
     os.makedirs(f"{folder}/bin")
-    program = shutil.copy(f"{ROOT}/crates/oncrpc/out/oncrpc", f"{folder}/bin/oncrpc")
+    program = shutil.copy(program, f"{folder}/bin/oncrpc")
     os.makedirs(f"{folder}/share")
     os.symlink(f"{ROOT}/share/oncrpc", f"{folder}/share/oncrpc")
     found = []
@@ -200,19 +170,26 @@ def named(folder):
     return "" if len(found) == 132 else f"{len(found)} messages"
 
 
-def messages_rows(sweep, folder):
-    for what, options, given, status, output in ROWS:
-        whole, growths, bad = sweep(f"messages {options}", given)
-        well = whole[:2] == (status, output) and not bad
-        print(f"messages, {what}: {growths} growths", *([] if well else [whole, *bad[:3]]))
-        yield well
-    for what, replies, given, status, output in BOTH:
-        with open(f"{folder}/replies.bin", "wb") as it:
-            it.write(replies)
-        whole, growths, bad = sweep(f"messages --replies replies.bin {RPCBIND}", given)
-        well = whole[:2] == (status, output) and not bad
-        print(f"messages with --replies, {what}: {growths} growths", *([] if well else [whole, *bad[:3]]))
-        yield well
-    said = named(f"{folder}/placed")
+def messages_rows(program, folder, heap):
+    sweep = Sweep(program, folder, heap)
+    yield sweep.row("an empty stream", RPCBIND, b"", (0, counts(0, 0, 0, 0, 0, 0)), 1)
+    for what, line, given, *wanted in ROWS:
+        yield sweep.row(what, line, given, tuple(wanted))
+    yield from both_rows(sweep, BOTH)
+    said = named(program, f"{folder}/placed")
     print(f"messages of tests/captures/libnfs.pcap: {said or 'as tshark names them'}")
     yield not said
+    yield from recorded_rows(program, folder)
+    yield from hostile_rows(sweep)
+    yield from further_rows(sweep)
+
+
+def both_rows(sweep, rows):
+    """Rows with a file of the other direction. Its growths are counted from where both streams are empty."""
+    line, file = f"--replies replies.bin {RPCBIND}", f"{sweep.folder}/replies.bin"
+    with open(file, "wb"):
+        begin = sweep.first(line)
+    for what, replies, given, *wanted in rows:
+        with open(file, "wb") as it:
+            it.write(replies)
+        yield sweep.row(f"with --replies, {what}", line, given, tuple(wanted), begin)
