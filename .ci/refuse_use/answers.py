@@ -36,7 +36,7 @@ WORDS = [
 ]
 # The words, and whether they read standard input, which can be a terminal.
 READERS = {"": 1, "check": 1, "show": 1, "records": 1, "show --version": 1, "check --help": 0, "show -h": 0}
-READERS.update({"help": 0, "help serve": 0, "info -h": 0, "serve --help": 0, "what": 0})
+READERS.update({"messages": 1, "messages --json": 1, "messages -h": 0, "help": 0, "help serve": 0, "info -h": 0, "serve --help": 0, "what": 0})
 # What an rt says on standard error and its status, and then the status of the answer and what is said of it.
 MIDDLE = "run=ended status=0 runners=1 proved=no\n"
 ENDS = [
@@ -66,7 +66,7 @@ MANY = 300000
 # greatest input as it stands in scripts/unproved and as it is here.
 TEXT, CUT, HELP = 262144, 1 << 20, "crates/oncrpc_words/src/help.rt"
 INPUT, LESS = "MOST_INPUT, MOST_TEXT = 64 << 20, 1 << 20\n", "MOST_INPUT, MOST_TEXT = 4096, 1 << 20\n"
-TOO_LONG = rb"oncrpc: the unproved program takes an input of at most 4096 bytes; " + DO
+TOO_LONG = rb"oncrpc: the unproved program takes %s of at most 4096 bytes; " + DO
 
 
 class Noted(Tree):
@@ -127,11 +127,18 @@ def input_read(folder):
     text = tree.read("scripts/unproved")
     yield row("an input of at most 64 MiB", text.count(INPUT) == 1, text)
     tree.write("scripts/unproved", text.replace(INPUT, LESS))
-    for size, status, told in ((4096, 0, b""), (4097, 3, TOO_LONG)):
+    for size, status, told in ((4096, 0, b""), (4097, 3, TOO_LONG % b"an input")):
         got = tree.run("./oncrpc show", b"\n" * size)
         printed = b"%d" % size if status == 0 else b""
         well = is_answer((got[0], got[1].strip(), *got[2:]), status, printed, UNPROVED + told, status == 0)
         yield row(f"./oncrpc show, {size} bytes where 4096 may be", well, got)
+    tree.write("bin/unproved", '#!/bin/sh\nwc -c <"$3"\n', 0o755)
+    for size, status, told in ((4096, 0, b""), (4097, 3, TOO_LONG % b"a file")):
+        tree.write("replies.bin", "\n" * size)
+        got = tree.run("./oncrpc messages --replies replies.bin")
+        printed = b"%d" % size if status == 0 else b""
+        well = is_answer((got[0], got[1].strip(), *got[2:]), status, printed, UNPROVED + told, status == 0)
+        yield row(f"./oncrpc messages --replies, {size} bytes where 4096 may be", well, got)
 
 
 def texts_named(folder):

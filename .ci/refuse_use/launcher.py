@@ -76,6 +76,10 @@ def unproved(folder):
     got = tree.run("./oncrpc check --types none.x", b"in")
     told = output(b"unproved", b"check", b"none", b"in")
     yield row("./oncrpc check --types none.x, which is not there", is_answer(got, 5, told, faults, 1), got)
+    for words, text in (("--replies deep/it.x", b"struct"), ("--replies=deep/it.x", b"struct"), ("--replies none", b"none")):
+        got = tree.run(f"./oncrpc messages {words}", b"in")
+        told = output(b"unproved", b"messages", text, b"in")
+        yield row(f"./oncrpc messages {words}", is_answer(got, 5, told, faults, 1), got)
     got = tree.run("./oncrpc")
     yield row("./oncrpc", is_answer(got, 5, output(b"unproved", b""), faults, 1), got)
     for name in (b"info", b"call", b"ping", b"serve"):

@@ -21,37 +21,24 @@ UNITS = [
     (16000, 16044 + 4 * 4012),
     (20000, 20044 + 4 * 4096),
 ]
-LONG = [
-    ("300,000 fragments of no bytes", OWN, fragment(b"", False) * 300000, 1, b"input refused Truncated at 1200000\n" + REFUSED),
-    (
-        "fragments of a mebibyte without end",
-        OWN,
-        (header(MEBIBYTE, False) + bytes(MEBIBYTE)) * 20,
-        1,
-        b"input refused TooLong at %d\n" % (16 * (MEBIBYTE + 4)) + REFUSED,
-    ),
-    (
-        "the longest record",
-        OWN,
-        fragment(bytes(MOST)),
-        1,
-        b"record\nrefused BadNumbered at 12\n" + counts(0, 0, 1, 1, 0, 0),
-    ),
-    (
-        "the longest argument",
-        OWN,
-        fragment(echo(opaque(b"a" * LONGEST))),
-        0,
-        ECHO_LINE + b'"%s"\n' % (b"a" * LONGEST) + counts(1, 0, 0, 0, 0, 0),
-    ),
-    (
-        "an argument that is too large",
-        OWN,
-        fragment(echo(opaque(b"a" * (LONGEST + 4)))),
-        1,
-        ECHO_LINE + b"refused TooLarge at %d\n" % (44 + 16777216) + ONE_CALL,
-    ),
-]
+
+
+def long_streams():
+    """What rows are about, the input, the status and the output."""
+    yield "300,000 fragments of no bytes", fragment(b"", False) * 300000, 1, b"input refused Truncated at 1200000\n" + REFUSED
+    without_end = (header(MEBIBYTE, False) + bytes(MEBIBYTE)) * 20
+    wanted = b"input refused TooLong at %d\n" % (16 * (MEBIBYTE + 4)) + REFUSED
+    yield "fragments of a mebibyte without end", without_end, 1, wanted
+    wanted = b"record\nrefused BadNumbered at 12\n" + counts(0, 0, 1, 1, 0, 0)
+    yield "the longest record", fragment(bytes(MOST)), 1, wanted
+    content = b"a" * LONGEST
+    wanted = ECHO_LINE + b'"%s"\n' % content + counts(1, 0, 0, 0, 0, 0)
+    yield "the longest argument", fragment(echo(opaque(content))), 0, wanted
+    wanted = ECHO_LINE + b"refused TooLarge at %d\n" % (44 + 16777216) + ONE_CALL
+    yield "an argument that is too large", fragment(echo(opaque(content + bytes(4)))), 1, wanted
+    for size, place in UNITS:
+        wanted = ECHO_LINE + b"refused MoreFollows at %d\n" % place + ONE_CALL
+        yield f"a string of {size} bytes in fragments of four", fragmented(size), 1, wanted
 
 
 def null(xid):
@@ -78,21 +65,16 @@ def many_calls(count, answered):
     return b"".join(map(null, range(count))) + replies, wanted + counts(count, len(answered), 0, 0, unknown, unknown)
 
 
+# Of 65,537 calls at least the newest 65,536 wait, and of 131,073 at most 131,072, of which the oldest go first.
+CALLS = [(65537, [(1, True), (65536, True)]), (131073, [(0, False), (65537, True), (131072, True)])]
+
+
 def long_rows(sweep):
-    rows = [*LONG]
-    for size, place in UNITS:
-        wanted = ECHO_LINE + b"refused MoreFollows at %d\n" % place + ONE_CALL
-        rows.append((f"a string of {size} bytes in fragments of four", OWN, fragmented(size), 1, wanted))
-    # Of 65,537 calls all but the first have 65,535 others behind them at most; of 131,073 the first has 131,072.
-    rows.append(("65,537 calls without a reply", RPCBIND, *kept(65537, [(1, True), (65536, True)])))
-    rows.append(("131,073 calls without a reply", RPCBIND, *kept(131073, [(0, False), (65537, True), (131072, True)])))
-    for what, line, given, *wanted in rows:
-        yield row(what, ended(sweep.program, sweep.folder, line, given), (*wanted, b""))
-
-
-def kept(count, answered):
-    given, wanted = many_calls(count, answered)
-    return given, 0, wanted
+    for what, given, *wanted in long_streams():
+        yield row(what, ended(sweep.program, sweep.folder, OWN, given), (*wanted, b""))
+    for count, answered in CALLS:
+        given, wanted = many_calls(count, answered)
+        yield row(f"{count} calls without a reply", ended(sweep.program, sweep.folder, RPCBIND, given), (0, wanted, b""))
 
 
 def row(what, got, wanted):
