@@ -55,7 +55,7 @@ def lines_of(program, text, rows):
 
 def is_object(program, path, line, row, about):
     """Whether an object is of this part of an exchange: its numbers, its name, and values that are these bytes."""
-    found, (part, digits, members) = json.loads(line), row
+    (part, digits, members), found = row, json.loads(line) if line[:1] == "{" else {}
     values = found.pop(part, None)
     if found != {**about, **members} or values is None or len(values) != bool(digits):
         return False
