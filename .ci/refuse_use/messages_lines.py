@@ -176,7 +176,7 @@ def messages_rows(program, folder, heap):
     for what, line, given, *wanted in ROWS:
         yield sweep.row(what, line, given, tuple(wanted))
     yield from both_rows(sweep, BOTH)
-    said = named(program, f"{folder}/placed")
+    said = named(program, f"{folder}/watched")
     print(f"messages of tests/captures/libnfs.pcap: {said or 'as tshark names them'}")
     yield not said
     yield from recorded_rows(program, folder)
