@@ -33,6 +33,6 @@ pub fn messages<O: Sink, F: Sink>(
         replies: what.replies,
         json: what.json,
     };
-    let mut input = FromRead::new(rt.stdin());
-    messages_over(known, &task, &mut opener, &mut input, output, faults)
+    let input = FromRead::new(rt.stdin());
+    messages_over(known, &task, &mut opener, input, output, faults)
 }

@@ -26,16 +26,16 @@ use xdr_types::Limits;
 /// read by the kinds of the call of its xid. With a second file its messages are printed as soon as their calls are
 /// known: the input is read on for that while at most 65536 calls wait. The status is 0, or 1 where anything was
 /// refused. It is 2 for texts that are refused, 3 where a device failed, and 4 for an allocation failure.
-pub fn messages_over<P: Opener, I: Source, O: Sink, F: Sink>(
+pub fn messages_over<P: Opener, I: Source + Drop, O: Sink, F: Sink>(
     known: Known<'_>,
     what: &MessagesTask,
     opener: &mut P,
-    input: &mut I,
+    input: I,
     output: &mut O,
     faults: &mut F,
 ) -> u8
     ensures { MessagesEnd (each_declared known.entry.texts.now) (P.reported opener.old) what.now
-        (I.left input.old) O.taken output.old output.new result }
+        (I.left input) O.taken output.old output.new result }
 {
     let other = match replies_of(what, opener) {
         Ok(other) => other,
@@ -66,17 +66,17 @@ fn replies_of<P: Opener>(what: &MessagesTask, opener: &mut P) -> Result<Option<P
 }
 
 // The messages, by what is declared.
-fn print_by<I: Source, R: Source + Drop, O: Sink>(
+fn print_by<I: Source + Drop, R: Source + Drop, O: Sink>(
     known: Known<'_>,
     declared: &Declared,
     json: bool,
-    input: &mut I,
+    input: I,
     other: Option<R>,
     output: &mut O,
 ) -> Result<u8, Failure>
     ensures few { IfOk result (λ status. status ≤ 1) }
     ensures prints { IfOk result (λ status. PrintsBy R.left (each_declared known.entry.texts.now)
-        (declared_of declared.now) json other (I.left input.old) (O.taken output.old)
+        (declared_of declared.now) json other (I.left input) (O.taken output.old)
         (O.taken output.new) status) }
 {
     let heads = read_heads(known.alloc)?;
@@ -115,16 +115,16 @@ fn form_of(json: bool) -> Form
 }
 
 // The messages of the input.
-fn print_one<I: Source, O: Sink>(
+fn print_one<I: Source + Drop, O: Sink>(
     alloc: Global,
     watch: &mut Watch<'_>,
-    input: &mut I,
+    input: I,
     output: &mut O,
 ) -> Result<u8, Failure>
     requires { IsAt watch.old nothing }
     ensures few { IfOk result (λ status. status ≤ 1) }
     ensures prints { IfOk result (λ status. PrintsInput (terms_of watch.old.terms)
-        (I.left input.old) (O.taken output.old) (O.taken output.new) status) }
+        (I.left input) (O.taken output.old) (O.taken output.new) status) }
 {
     let mut calls = Stream::new(alloc, "input", input);
     calls.tell_all(watch, output)?;
@@ -133,17 +133,17 @@ fn print_one<I: Source, O: Sink>(
 }
 
 // Those of the input and of the other direction.
-fn print_both<I: Source, R: Source + Drop, O: Sink>(
+fn print_both<I: Source + Drop, R: Source + Drop, O: Sink>(
     alloc: Global,
     watch: &mut Watch<'_>,
-    input: &mut I,
+    input: I,
     other: R,
     output: &mut O,
 ) -> Result<u8, Failure>
     requires { IsAt watch.old nothing }
     ensures few { IfOk result (λ status. status ≤ 1) }
     ensures prints { IfOk result (λ status. PrintsBoth (terms_of watch.old.terms)
-        (I.left input.old) (R.left other) (O.taken output.old) (O.taken output.new) status) }
+        (I.left input) (R.left other) (O.taken output.old) (O.taken output.new) status) }
 {
     let mut calls = Stream::new(alloc, "input", input);
     let mut replies = Stream::new(alloc, "replies", other);
