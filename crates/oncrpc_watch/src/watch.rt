@@ -99,6 +99,14 @@ impl<'a> Watch<'a> {
         self.table.spare()
     }
 
+    /// Whether a record of this way is a reply whose call is known.
+    pub fn is_asked(&self, way: u32, record: &[u8]) -> bool {
+        match reply_xid(record) {
+            Some(xid) => self.table.find(way, xid).is_some(),
+            None => false,
+        }
+    }
+
     /// Whether a record of this way is a reply whose call is not known.
     pub fn is_unasked(&self, way: u32, record: &[u8]) -> bool {
         match reply_xid(record) {

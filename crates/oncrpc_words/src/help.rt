@@ -36,11 +36,23 @@ pub const RECORDS: &str = "Writes each record of standard input as one fragment"
 /// What `messages` does.
 pub const MESSAGES: &str = "Prints the calls and replies of standard input and judges them";
 
+/// What `capture` does.
+pub const CAPTURE: &str = "Prints the calls and replies of a capture and judges them";
+
 /// The file with the other direction.
 pub const REPLIES: &str = "The file with the other direction of the connection";
 
 /// Messages as JSON.
 pub const JSON_MESSAGES: &str = "Print an object of JSON on a line for each message";
+
+/// The file of captured packets.
+pub const CAPTURED: &str = "A file of captured packets, pcap or pcapng, or - for standard input";
+
+/// The ports of a capture.
+pub const PORTS: &str = "A port whose traffic is RPC, in place of what looks like it";
+
+/// Counts in place of messages.
+pub const STATS: &str = "Print counts and the slowest replies in place of messages";
 
 /// What `info` does.
 pub const INFO: &str = "Asks the registry of a host for its rows and prints them";

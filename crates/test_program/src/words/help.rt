@@ -172,13 +172,14 @@ const OF_MESSAGES: [&str; 4] = [
     "\n    $ (printf",
 ];
 
-const OF_ALL: [&str; 18] = [
+const OF_ALL: [&str; 19] = [
     "check",
     "show",
     "encode",
     "types",
     "records",
     "messages",
+    "capture",
     "info",
     "call",
     "ping",

@@ -1,0 +1,3 @@
+pub mod CaptureEnd
+pub mod Entries
+pub mod Private
