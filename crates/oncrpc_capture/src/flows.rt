@@ -1,103 +1,109 @@
-//! The flows of a capture.
-use crate::flow::{Flow, Pair};
+//! Connections over TCP.
+use crate::pairs::{Pair, Pairs};
+use crate::side::Side;
+use capture_packets::Segment;
 use std::alloc::{AllocError, Global};
-use std::collections::BTreeMap;
 
-/// How many flows are followed at a time.
-const MOST_FLOWS: usize = 4096;
+/// A connection: what each of two nodes sends.
+#[derive(Drop)]
+pub struct Flow {
+    /// Whether it is known to be RPC.
+    pub known: bool,
+    up: Side,
+    down: Side,
+    /// How many bytes of memory it held when they were counted.
+    counted: usize,
+}
 
-/// The flows of a capture, of which so many are followed at a time.
+impl Flow {
+    // A connection of which no segment was taken.
+    fn new(alloc: Global, known: bool) -> Flow {
+        Flow {
+            known,
+            up: Side::new(alloc),
+            down: Side::new(alloc),
+            counted: 0,
+        }
+    }
+
+    /// What one of the two nodes sends: the lower one, or the higher.
+    pub fn side(&mut self, up: bool) -> &mut Side {
+        if up { &mut self.up } else { &mut self.down }
+    }
+
+    // How many bytes of memory it holds, about.
+    fn held(&self) -> usize {
+        self.up.held().saturating_add(self.down.held())
+    }
+}
+
+/// The connections of a capture, of which 4096 are followed at a time.
 #[derive(Drop)]
 pub struct Flows {
     alloc: Global,
-    places: BTreeMap<Pair, usize>,
+    pub pairs: Pairs,
     flows: Vec<Flow>,
-    /// The number of the next flow.
-    next: u32,
     /// How many bytes of memory they hold, about.
     held: usize,
 }
 
 impl Flows {
-    /// No flow.
+    /// No connection.
     pub fn new(alloc: Global) -> Flows {
         Flows {
             alloc,
-            places: BTreeMap::new(alloc),
+            pairs: Pairs::new(alloc),
             flows: Vec::new(alloc),
-            next: 0,
             held: 0,
         }
     }
 
-    /// The place of the flow of these nodes. Where it is new and there are too many, the one that was not seen for the
-    /// longest time is forgotten for it.
-    pub fn place_of(&mut self, pair: Pair, known: bool) -> Result<usize, AllocError> {
-        if let Some(place) = self.places.get(&pair) {
-            return Ok(*place);
-        }
-        let flow = Flow::new(self.alloc, pair, self.next, known);
-        self.next = self.next.wrapping_add(1);
-        let place = self.put(flow)?;
-        match self.places.insert(pair, place) {
-            Ok(_) => Ok(place),
-            Err(_) => Err(AllocError),
-        }
-    }
-
-    // Puts a new flow where there is a place for it.
-    fn put(&mut self, flow: Flow) -> Result<usize, AllocError> {
-        let count = self.flows.len();
-        if count < MOST_FLOWS {
-            match self.flows.push(flow) {
-                Ok(()) => return Ok(count),
-                Err(_) => return Err(AllocError),
+    /// Follows a new connection, and says its place. Where there are too many, the one that was not seen for the longest
+    /// time is forgotten.
+    pub fn follow(&mut self, pair: Pair, known: bool) -> Result<usize, AllocError> {
+        let place = self.pairs.follow(pair)?;
+        let flow = Flow::new(self.alloc, known);
+        match self.flows.get_mut(place) {
+            Some(old) => {
+                self.held = self.held.saturating_sub(old.counted);
+                *old = flow;
             }
+            None => self.flows.push(flow)?,
         }
-        let oldest = self.oldest();
-        if let Some(old) = self.flows.get_mut(oldest) {
-            self.places.remove(&old.pair);
-            self.held = self.held.saturating_sub(old.held());
-            *old = flow;
-        }
-        Ok(oldest)
+        Ok(place)
     }
 
-    // The place of the flow that was not seen for the longest time.
-    fn oldest(&self) -> usize {
-        let mut oldest = 0;
-        let mut last = u64::MAX;
-        for (place, flow) in self.flows.iter().enumerate() {
-            if flow.last < last {
-                last = flow.last;
-                oldest = place;
-            }
-        }
-        oldest
-    }
-
-    /// Whether there is a flow of these nodes.
-    pub fn has(&self, pair: &Pair) -> bool {
-        self.places.contains_key(pair)
-    }
-
-    /// The flow at a place, where there is one.
+    /// The connection at a place, where one is.
     pub fn flow(&mut self, place: usize) -> Option<&mut Flow> {
         self.flows.get_mut(place)
+    }
+
+    /// The number and the time of the last packet of a direction of the connection at a place.
+    pub fn last(&self, place: usize, up: bool) -> Option<(u64, u64)> {
+        let flow = self.flows.get(place)?;
+        Some(if up { flow.up.last() } else { flow.down.last() })
+    }
+
+    /// Whether a segment is of another connection between the nodes at a place.
+    pub fn is_other(&self, place: usize, up: bool, segment: Segment<'_>) -> bool {
+        match self.flows.get(place) {
+            Some(flow) if up => flow.up.is_other(segment),
+            Some(flow) => flow.down.is_other(segment),
+            None => false,
+        }
+    }
+
+    /// Counts what the connection at a place holds.
+    pub fn count(&mut self, place: usize) {
+        if let Some(flow) = self.flows.get_mut(place) {
+            let held = flow.held();
+            self.held = self.held.saturating_sub(flow.counted).saturating_add(held);
+            flow.counted = held;
+        }
     }
 
     /// How many bytes of memory they hold, about.
     pub fn held(&self) -> usize {
         self.held
-    }
-
-    /// One of them held so many bytes, and holds so many now.
-    pub fn change(&mut self, before: usize, after: usize) {
-        self.held = self.held.saturating_sub(before).saturating_add(after);
-    }
-
-    /// How many there are.
-    pub fn len(&self) -> usize {
-        self.flows.len()
     }
 }

@@ -1,40 +1,31 @@
 //! Where what is found goes.
-ghost use Rattle.std.specs.Prelude.{◌≡◌, List, ℕ, IfOk, string_bytes};
-ghost use Rattle.oncrpc_messages.specs.Closing.{closed};
-ghost use Rattle.oncrpc_watch.specs.Events.{stream_line};
-ghost use Rattle.oncrpc_capture.specs.Entries.{behind, note_text, place_of};
-
-use crate::nodes::{Node, node_text};
+use crate::seen::Seen;
 use crate::stats::Stats;
+use crate::text::{front_text, joined, note_text, refused_text, unread_text};
+use crate::told::{Told, told_name, why_unread};
+use capture_packets::Reason;
 use oncrpc_answers::Failure;
-use oncrpc_messages::{Form, Page, Verdict, close_page};
+use oncrpc_messages::{Page, Verdict, close_page};
 use oncrpc_watch::{Watch, counts_line};
 use std::alloc::{AllocError, Global};
 use xdr_io::{Sink, write_whole};
-
-/// The packet that ended a message: its number in the file from 1, its time in nanoseconds since 1970 UTC, and who sent
-/// it to whom.
-#[derive(Clone, Copy)]
-pub struct Seen {
-    pub frame: u64,
-    pub time: u64,
-    pub from: Node,
-    pub to: Node,
-}
 
 /// Where what is found goes: to the output, or into counts.
 #[derive(Drop)]
 pub struct Printing<'a> {
     alloc: Global,
     pub watch: Watch<'a>,
-    stats: Option<Stats>,
+    pub stats: Option<Stats>,
 }
 
 impl<'a> Printing<'a> {
     ghost use Rattle.std.specs.Prelude.{◌≡◌, ◌∷◌, [], List, ℕ, IfOk, OnOk, is_some};
+    ghost use Rattle.std.specs.Io.KnownBytes.{Appends};
     ghost use Rattle.oncrpc_messages.specs.Closing.{closed};
-    ghost use Rattle.oncrpc_capture.specs.Entries.{Message, Note, Refused, behind, place_of};
+    ghost use Rattle.oncrpc_capture.specs.Entries.{FileRefused, Message, Note, TooLong, Unread, place_of};
+    ghost use Rattle.oncrpc_capture.specs.Notes.{told_name, why_unread};
     ghost use Rattle.oncrpc_capture.specs.Private.Steps.{Closes, Prints};
+    ghost use Rattle.oncrpc_capture.specs.Texts.{behind, front_text};
 
     /// Nothing was found.
     pub fn new(alloc: Global, watch: Watch<'a>, stats: bool) -> Printing<'a>
@@ -49,7 +40,7 @@ impl<'a> Printing<'a> {
         }
     }
 
-    /// A record of this flow that ended with this packet.
+    /// A message of this way that ended with this packet.
     pub fn record<O: Sink>(
         &mut self,
         way: u32,
@@ -57,12 +48,12 @@ impl<'a> Printing<'a> {
         record: &[u8],
         output: &mut O,
     ) -> Result<(), Failure>
-        ensures { OnOk result (Prints self.old self.new (Message way seen.time record.now ∷ []) (O.taken output.old)
+        ensures { OnOk result (Prints self.old self.new (Message seen way record.now ∷ []) (O.taken output.old)
             (O.taken output.new)) }
     {
         let told = self.watch.tell(way, seen.time, record)?;
         if let Some(stats) = &mut self.stats {
-            stats.count(&told.page, told.asked, seen.frame, seen.time)?;
+            stats.count(&told.page, told.asked, seen)?;
             return Ok(());
         }
         let text = self.text_of(seen, told.page)?;
@@ -72,8 +63,9 @@ impl<'a> Printing<'a> {
 
     // The text of a message behind that of its packet.
     fn text_of(&self, seen: Seen, page: Page) -> Result<Vec<u8>, AllocError>
-        ensures { IfOk result (λ text. (front : List ℕ) × (text.items ≡ behind self.now.watch.terms.form front
-            (closed self.now.watch.terms.form page.text.items page.verdict (place_of page.verdict)))) }
+        ensures { IfOk result (λ text. text.items ≡ behind self.now.watch.terms.form
+            (front_text self.now.watch.terms.form seen)
+            (closed self.now.watch.terms.form page.text.items page.verdict (place_of page.verdict))) }
     {
         let form = self.watch.form();
         let place = match page.verdict {
@@ -85,41 +77,86 @@ impl<'a> Printing<'a> {
         joined(form, front, &message)
     }
 
-    /// A line of what a direction came to, with a count of bytes.
+    /// What is said of so many bytes.
     pub fn note<O: Sink>(
         &mut self,
         seen: Seen,
-        what: &str,
+        told: Told,
         count: u64,
         output: &mut O,
     ) -> Result<(), Failure>
-        ensures { OnOk result (Prints self.old self.new (Note what.now count ∷ []) (O.taken output.old)
+        ensures { OnOk result (Prints self.old self.new (Note seen (told_name told) count ∷ []) (O.taken output.old)
             (O.taken output.new)) }
     {
-        if self.stats.is_some() {
+        if let Some(stats) = &mut self.stats {
+            stats.note(told, count);
             return Ok(());
         }
-        let alloc = self.alloc;
         let form = self.watch.form();
-        let front = front_text(alloc, form, seen)?;
-        let line = note_line(alloc, form, &front, what, count)?;
+        let line = note_text(self.alloc, form, told_name(told), count)?;
+        self.put(seen, line.as_bytes(), output)
+    }
+
+    /// A header that no record has.
+    pub fn too_long<O: Sink>(&mut self, seen: Seen, output: &mut O) -> Result<(), Failure>
+        ensures { OnOk result (Prints self.old self.new (TooLong seen ∷ []) (O.taken output.old)
+            (O.taken output.new)) }
+    {
+        self.watch.refuse();
+        if let Some(stats) = &mut self.stats {
+            stats.refuse_record();
+            return Ok(());
+        }
+        let form = self.watch.form();
+        let line = refused_text(self.alloc, form, "record", "TooLong", 0)?;
+        self.put(seen, line.as_bytes(), output)
+    }
+
+    // Writes a text behind that of its packet.
+    fn put<O: Sink>(&self, seen: Seen, text: &[u8], output: &mut O) -> Result<(), Failure>
+        ensures { OnOk result (Appends (O.taken output.old) (O.taken output.new)
+            (behind self.now.watch.terms.form (front_text self.now.watch.terms.form seen) text.now)) }
+    {
+        let form = self.watch.form();
+        let front = front_text(self.alloc, form, seen)?.into_bytes();
+        let line = joined(form, front, text)?;
+        write_whole(output, &line)?;
+        Ok(())
+    }
+
+    /// A packet that is not read, by its number and time, for this reason.
+    pub fn unread<O: Sink>(
+        &mut self,
+        frame: u64,
+        time: u64,
+        reason: Reason,
+        output: &mut O,
+    ) -> Result<(), Failure>
+        ensures { OnOk result (Prints self.old self.new (Unread frame time (why_unread reason) ∷ [])
+            (O.taken output.old) (O.taken output.new)) }
+    {
+        if let Some(stats) = &mut self.stats {
+            stats.unread(reason);
+            return Ok(());
+        }
+        let form = self.watch.form();
+        let line = unread_text(self.alloc, form, frame, time, why_unread(reason))?;
         write_whole(output, line.as_bytes())?;
         Ok(())
     }
 
-    /// A line of what is refused that is no message.
-    pub fn refuse<O: Sink>(
+    /// Why the file is refused, and where.
+    pub fn refuse_file<O: Sink>(
         &mut self,
-        what: &str,
         why: &str,
         at: u64,
         output: &mut O,
     ) -> Result<(), Failure>
-        ensures { OnOk result (Prints self.old self.new (Refused what.now why.now at ∷ []) (O.taken output.old)
+        ensures { OnOk result (Prints self.old self.new (FileRefused why.now at ∷ []) (O.taken output.old)
             (O.taken output.new)) }
     {
         self.watch.refuse();
-        let line = refused_line(self.alloc, self.watch.form(), what, why, at)?;
+        let line = refused_text(self.alloc, self.watch.form(), "file", why, at)?;
         write_whole(output, line.as_bytes())?;
         Ok(())
     }
@@ -137,82 +174,4 @@ impl<'a> Printing<'a> {
         write_whole(output, line.as_bytes())?;
         Ok(())
     }
-}
-
-// A message behind what tells its packet.
-fn joined(form: Form, front: Vec<u8>, message: &[u8]) -> Result<Vec<u8>, AllocError>
-    ensures { IfOk result (λ text. text.items ≡ behind form front.items message.now) }
-{
-    let mut text = front;
-    match form {
-        Form::Lines => text.extend_from_slice(message)?,
-        Form::Json => {
-            if message.len() > 1 {
-                text.extend_from_slice(&message[1..])?;
-            }
-        }
-    }
-    Ok(text)
-}
-
-// A note behind what tells its packet.
-fn note_line(
-    alloc: Global,
-    form: Form,
-    front: &str,
-    what: &str,
-    count: u64,
-) -> Result<String, AllocError>
-    ensures { IfOk result (λ text. string_bytes text ≡ behind form front.now (note_text form what.now count)) }
-{
-    match form {
-        Form::Lines => format!(in alloc; "{front}{what} {count} bytes\n"),
-        Form::Json => format!(in alloc; "{front}\"type\":\"{what}\",\"bytes\":{count}}}\n"),
-    }
-}
-
-fn refused_line(
-    alloc: Global,
-    form: Form,
-    what: &str,
-    why: &str,
-    at: u64,
-) -> Result<String, AllocError>
-    ensures { IfOk result (λ text. string_bytes text ≡ stream_line form what.now why.now at) }
-{
-    match form {
-        Form::Lines => format!(in alloc; "{what} refused {why} at {at}\n"),
-        Form::Json => format!(in alloc;
-            "{{\"type\":\"{what}\",\"refused\":\"{why}\",\"at\":{at}}}\n"
-        ),
-    }
-}
-
-// What stands before a message: its packet, the time, and who sent it to whom.
-fn front_text(alloc: Global, form: Form, seen: Seen) -> Result<String, AllocError> {
-    let from = node_text(alloc, seen.from)?;
-    let to = node_text(alloc, seen.to)?;
-    let frame = seen.frame;
-    let time = time_text(alloc, seen.time)?;
-    match form {
-        Form::Lines => format!(in alloc;
-            "{frame} {} {} > {} ",
-            time.as_str(),
-            from.as_str(),
-            to.as_str()
-        ),
-        Form::Json => format!(in alloc;
-            "{{\"packet\":{frame},\"time\":\"{}\",\"from\":\"{}\",\"to\":\"{}\",",
-            time.as_str(),
-            from.as_str(),
-            to.as_str()
-        ),
-    }
-}
-
-// Seconds and nine digits of a second.
-fn time_text(alloc: Global, time: u64) -> Result<String, AllocError> {
-    let seconds = time / 1_000_000_000;
-    let rest = time % 1_000_000_000;
-    format!(in alloc; "{seconds}.{rest:09}")
 }

@@ -1,29 +1,28 @@
 //! One direction of a connection over TCP.
-use crate::finding::{LOOKED, record_in};
+use crate::finding::{LOOKED, MOST_RECORD, begins_fragment, record_in};
+use crate::sequence::{end_of, first_of};
+use crate::step::Step;
+use crate::told::Told;
 use capture_packets::Segment;
-use capture_streams::{Direction, Refusal};
+use capture_streams::{Direction, Ending, Refusal};
 use rpc_record::{RecordFault, RecordReader, RecordStep};
 use std::alloc::{AllocError, Global};
-
-/// The most bytes of a record: a head, and 16777216 bytes of arguments or results.
-const MOST_RECORD: u32 = 16781312;
 
 /// How many bytes of memory are held behind holes.
 const MOST_HELD: usize = 1048576;
 
-/// What comes of a direction.
-#[derive(Clone, Copy, Debug, PartialEq, Eq)]
-pub enum Step {
-    /// A record, in the buffer.
-    Record,
-    /// So many bytes are missing here.
-    Missing(u64),
-    /// A header that no record has.
-    TooLong,
-    /// So many bytes were passed over until a record was found.
-    Passed(u64),
-    /// Nothing more for now.
-    Waits,
+/// The greatest window of a connection (RFC 7323 section 2.3): bytes that stand further back are of another one.
+const MOST_WINDOW: u32 = 1 << 30;
+
+/// Where the next record is.
+#[derive(Clone, Copy, PartialEq, Eq)]
+enum Next {
+    /// It begins with the next byte, or has begun.
+    Here,
+    /// It begins with the next byte if the connection is RPC, which is not known.
+    First,
+    /// It has to be found.
+    Lost,
 }
 
 /// One direction of a connection: its bytes put together, and the records in them.
@@ -31,16 +30,24 @@ pub enum Step {
 pub struct Side {
     alloc: Global,
     direction: Option<Direction>,
-    /// The sequence number of its first byte.
+    /// The sequence number of its first byte, and the one behind its last byte as far as is known. Behind a FIN no
+    /// bytes come.
     first: u32,
+    end: u32,
+    is_whole: bool,
+    /// The number and the time of its last packet.
+    last: (u64, u64),
     reader: RecordReader,
+    /// How many bytes were taken of a record that is not whole.
+    begun: u64,
     /// What was handed on, and how much of it was taken.
     due: Vec<u8>,
     at: usize,
-    /// Whether the next record has to be found, and how many bytes were passed over for that.
-    lost: bool,
+    next: Next,
+    /// How many bytes were passed over to find the next record.
     passed: u64,
-    /// How many bytes are missing here, which is not told yet.
+    /// What is to be said of bytes before a hole, and how many bytes are missing there.
+    broken: Option<(Told, u64)>,
     missing: u64,
 }
 
@@ -51,92 +58,90 @@ impl Side {
             alloc,
             direction: None,
             first: 0,
+            end: 0,
+            is_whole: false,
+            last: (0, 0),
             reader: RecordReader::start(alloc, MOST_RECORD),
+            begun: 0,
             due: Vec::new(alloc),
             at: 0,
-            lost: false,
+            next: Next::Lost,
             passed: 0,
+            broken: None,
             missing: 0,
         }
     }
 
-    // The bytes from this sequence number on. Those of a connection whose beginning was not seen have to be found.
-    fn begin(&mut self, sequence: u32, lost: bool) {
-        self.direction = Some(Direction::start(self.alloc, sequence, MOST_HELD));
-        self.first = sequence;
-        self.reader = RecordReader::start(self.alloc, MOST_RECORD);
-        self.due.clear();
-        self.at = 0;
-        self.lost = lost;
-        self.passed = 0;
-        self.missing = 0;
+    /// Whether this segment begins another connection: by a SYN with another number, or by bytes that stand further
+    /// back than any window.
+    pub fn is_other(&self, segment: Segment<'_>) -> bool {
+        let Some(direction) = &self.direction else {
+            return false;
+        };
+        if segment.flags.syn {
+            return first_of(segment) != self.first;
+        }
+        if segment.bytes.is_empty() {
+            return false;
+        }
+        match direction.end(end_of(segment)) {
+            Ending::Past { beyond } => beyond > MOST_WINDOW,
+            Ending::Whole | Ending::Cut { .. } => false,
+        }
     }
 
-    /// Takes a segment. Where it is not known that it carries records, the first has to be found.
-    pub fn take(&mut self, segment: Segment<'_>, known: bool) -> Result<(), AllocError> {
-        let first = if segment.flags.syn {
-            segment.sequence.wrapping_add(1)
-        } else {
-            segment.sequence
-        };
-        if self.direction.is_none() {
-            self.begin(first, !segment.flags.syn || !known);
-        } else if segment.flags.syn && first != self.first {
-            self.begin(first, !known);
+    /// Begins with this segment, where nothing has begun. Where its beginning was seen the first record stands there.
+    pub fn begin(&mut self, segment: Segment<'_>) {
+        if self.direction.is_some() || !segment.flags.syn && segment.bytes.is_empty() {
+            return;
         }
+        let first = first_of(segment);
+        self.direction = Some(Direction::start(self.alloc, first, MOST_HELD));
+        self.first = first;
+        self.end = first;
+        self.is_whole = false;
+        self.next = if segment.flags.syn {
+            Next::First
+        } else {
+            Next::Lost
+        };
+    }
+
+    /// Notes a segment: the number and the time of its packet, and where its bytes end.
+    pub fn note(&mut self, segment: Segment<'_>, frame: u64, time: u64) {
+        self.last = (frame, time);
+        if segment.flags.reset || self.is_whole {
+            return;
+        }
+        let end = end_of(segment);
+        if end.wrapping_sub(self.end) < 1 << 31 {
+            self.end = end;
+        }
+        self.is_whole = segment.flags.fin;
+    }
+
+    /// The number and the time of its last packet.
+    pub fn last(&self) -> (u64, u64) {
+        self.last
+    }
+
+    /// Takes bytes of a segment that begin with this sequence number. None: all were taken. Else too many are held
+    /// behind a hole, and the first so many were taken.
+    pub fn take(&mut self, sequence: u32, bytes: &[u8]) -> Result<Option<usize>, AllocError> {
         self.drop_taken()?;
         let Some(direction) = &mut self.direction else {
-            return Ok(());
+            return Ok(None);
         };
-        match direction.take(first, segment.bytes, &mut self.due) {
-            Ok(()) => Ok(()),
+        match direction.take(sequence, bytes, &mut self.due) {
+            Ok(()) | Err(Refusal::PlacesEnd) => Ok(None),
+            Err(Refusal::Full { taken }) => Ok(Some(taken)),
             Err(Refusal::NoMemory { .. }) => Err(AllocError),
-            Err(Refusal::PlacesEnd) => Ok(()),
-            Err(Refusal::Full { taken }) => {
-                let rest = segment.bytes.get(taken..).unwrap_or(&[]);
-                self.skip(first.wrapping_add((taken % (1 << 32)) as u32), rest)
-            }
         }
     }
 
-    // Goes on behind a hole, and takes the rest of a segment there.
-    fn skip(&mut self, sequence: u32, rest: &[u8]) -> Result<(), AllocError> {
-        self.go_behind()?;
-        let Some(direction) = &mut self.direction else {
-            return Ok(());
-        };
-        match direction.take(sequence, rest, &mut self.due) {
-            Err(Refusal::NoMemory { .. }) => Err(AllocError),
-            Ok(()) | Err(Refusal::PlacesEnd) | Err(Refusal::Full { .. }) => Ok(()),
-        }
-    }
-
-    /// Goes on behind the first hole, where there is one: at the end of a capture no more comes to fill it.
-    pub fn go_behind(&mut self) -> Result<bool, AllocError> {
-        let Some(direction) = &mut self.direction else {
-            return Ok(false);
-        };
-        let Some(missing) = direction.skip_hole() else {
-            return Ok(false);
-        };
-        if missing != 0 {
-            self.due.clear();
-            self.at = 0;
-            self.reader = RecordReader::start(self.alloc, MOST_RECORD);
-            self.lost = true;
-            self.missing = self.missing.saturating_add(missing);
-        }
-        direction.hand_on(&mut self.due)?;
-        Ok(true)
-    }
-
-    // Drops what was taken of the bytes that were handed on.
+    // Drops what was taken of the bytes that were handed on, and their memory.
     fn drop_taken(&mut self) -> Result<(), AllocError> {
-        if self.at == self.due.len() {
-            self.due.clear();
-        } else {
-            self.due = Vec::from_slice(self.alloc, self.untaken())?;
-        }
+        self.due = Vec::from_slice(self.alloc, self.untaken())?;
         self.at = 0;
         Ok(())
     }
@@ -146,32 +151,105 @@ impl Side {
         self.due.get(self.at..).unwrap_or(&[])
     }
 
-    /// The next that comes of it. A record is put into the buffer.
-    pub fn next(&mut self, buffer: &mut Vec<u8>) -> Result<Step, AllocError> {
+    /// Goes on behind the first hole. False: nothing is held there.
+    pub fn go_behind(&mut self) -> Result<bool, AllocError> {
+        let Some(direction) = &mut self.direction else {
+            return Ok(false);
+        };
+        let Some(missing) = direction.skip_hole() else {
+            return Ok(false);
+        };
+        if missing != 0 {
+            self.missing = missing;
+            self.broken = self.give_up();
+        }
+        match &mut self.direction {
+            Some(direction) => direction.hand_on(&mut self.due)?,
+            None => {}
+        }
+        Ok(true)
+    }
+
+    /// Gives up the bytes that no record was made of, and says what is to be said of them. The next record has to be
+    /// found.
+    pub fn give_up(&mut self) -> Option<(Told, u64)> {
+        let left = self.untaken().len() as u64;
+        let (told, count) = match self.next {
+            Next::Here => (Told::Unfinished, self.begun),
+            Next::First | Next::Lost => (Told::Passed, self.passed.saturating_add(left)),
+        };
+        self.reader = RecordReader::start(self.alloc, MOST_RECORD);
+        self.begun = 0;
+        self.due = Vec::new(self.alloc);
+        self.at = 0;
+        self.next = Next::Lost;
+        self.passed = 0;
+        if count == 0 {
+            None
+        } else {
+            Some((told, count))
+        }
+    }
+
+    /// How many bytes are missing at its end, as far as is known where that is.
+    pub fn missing_at_end(&self) -> u64 {
+        let Some(direction) = &self.direction else {
+            return 0;
+        };
+        match direction.end(self.end) {
+            Ending::Cut { missing } => missing as u64,
+            Ending::Whole | Ending::Past { .. } => 0,
+        }
+    }
+
+    /// The next that comes of it, where it is known to be RPC or not. A record is put into the buffer.
+    pub fn next(&mut self, known: bool, buffer: &mut Vec<u8>) -> Result<Step, AllocError> {
+        if let Some((told, count)) = self.broken {
+            self.broken = None;
+            return Ok(Step::Tells(told, count));
+        }
         if self.missing != 0 {
             let missing = self.missing;
             self.missing = 0;
-            return Ok(Step::Missing(missing));
+            return Ok(Step::Tells(Told::Missing, missing));
         }
-        if self.lost {
-            match record_in(self.untaken()) {
-                None => {
-                    let left = self.untaken().len();
-                    self.pass(left.saturating_sub(LOOKED - 1));
-                    return Ok(Step::Waits);
-                }
-                Some(before) => {
-                    self.pass(before);
-                    self.lost = false;
-                }
-            }
-            if self.passed != 0 {
-                let passed = self.passed;
-                self.passed = 0;
-                return Ok(Step::Passed(passed));
-            }
+        if !self.finds(known) {
+            return Ok(Step::Waits);
+        }
+        if self.passed != 0 {
+            let passed = self.passed;
+            self.passed = 0;
+            return Ok(Step::Tells(Told::Passed, passed));
         }
         self.record(buffer)
+    }
+
+    // Finds the next record. False: more bytes are wanted for that.
+    fn finds(&mut self, known: bool) -> bool {
+        if self.next == Next::First {
+            if known || begins_fragment(self.untaken()) {
+                self.next = Next::Here;
+            } else if self.untaken().len() < LOOKED {
+                return false;
+            } else {
+                self.next = Next::Lost;
+            }
+        }
+        if self.next == Next::Here {
+            return true;
+        }
+        match record_in(self.untaken()) {
+            None => {
+                let left = self.untaken().len();
+                self.pass(left.saturating_sub(LOOKED - 1));
+                false
+            }
+            Some(before) => {
+                self.pass(before);
+                self.next = Next::Here;
+                true
+            }
+        }
     }
 
     // Passes over so many bytes.
@@ -180,23 +258,26 @@ impl Side {
         self.passed = self.passed.saturating_add(count as u64);
     }
 
-    // The next record.
+    // The next record. Behind each the reader begins anew, so that it keeps no memory.
     fn record(&mut self, buffer: &mut Vec<u8>) -> Result<Step, AllocError> {
         let untaken = self.due.get(self.at..).unwrap_or(&[]);
         match self.reader.feed_into(untaken, buffer) {
             Ok(RecordStep::Whole { used }) => {
                 self.at = self.at.saturating_add(used);
+                self.reader = RecordReader::start(self.alloc, MOST_RECORD);
+                self.begun = 0;
                 Ok(Step::Record)
             }
             Ok(RecordStep::More) => {
+                self.begun = self.begun.saturating_add(untaken.len() as u64);
                 self.at = self.due.len();
                 Ok(Step::Waits)
             }
             Err(RecordFault::NoMemory) => Err(AllocError),
             Err(_) => {
                 self.reader = RecordReader::start(self.alloc, MOST_RECORD);
-                self.at = self.due.len();
-                self.lost = true;
+                self.begun = 0;
+                self.next = Next::Lost;
                 Ok(Step::TooLong)
             }
         }
@@ -216,9 +297,6 @@ impl Side {
     /// Lets all that it holds go. The next record has to be found.
     pub fn let_go(&mut self) {
         self.direction = None;
-        self.reader = RecordReader::start(self.alloc, MOST_RECORD);
-        self.due = Vec::new(self.alloc);
-        self.at = 0;
-        self.lost = true;
+        let _given_up = self.give_up();
     }
 }

@@ -1,30 +1,21 @@
-//! What is counted where no message is printed.
-ghost use Rattle.std.specs.Prelude.{◌<◌};
+//! What is counted where no message is printed; `tables` are the lines of it.
+ghost use Rattle.std.specs.Prelude.{◌<◌, IfSome};
 
-use oncrpc_messages::{Asked, Form, Page, Said, Verdict, Why};
-use oncrpc_watch::Terms;
+use crate::seen::Seen;
+use crate::told::Told;
+use capture_packets::Reason as Unread;
+use oncrpc_messages::{Asked, Page, Said, Verdict, Why};
 use std::alloc::{AllocError, Global};
 use std::collections::BTreeMap;
 use xdr_codec::Reason;
+
+mod tables;
 
 /// Of how many procedures there are rows. Calls of others are counted in none.
 const MOST_ROWS: usize = 4096;
 
 /// How many of the slowest replies are told.
 const MOST_SLOW: usize = 10;
-
-/// The reasons of refusals, in the order in which they are told.
-const REASONS: [&str; 9] = [
-    "BadBool",
-    "BadNumbered",
-    "BadCase",
-    "TooLong",
-    "BadPadding",
-    "TooDeep",
-    "TooLarge",
-    "Truncated",
-    "MoreFollows",
-];
 
 /// A procedure by its numbers.
 #[derive(Clone, Copy, Debug, PartialEq, Eq, PartialOrd, Ord)]
@@ -59,6 +50,10 @@ pub struct Stats {
     reasons: [u64; 9],
     /// The slowest replies, the slowest first.
     slow: Vec<Slow>,
+    /// Of how many bytes each was said.
+    told: [u64; 4],
+    /// How many packets were not read for each reason.
+    unread: [u64; 6],
 }
 
 fn target_of(asked: Asked) -> Target {
@@ -66,6 +61,31 @@ fn target_of(asked: Asked) -> Target {
         program: asked.program,
         version: asked.version,
         procedure: asked.procedure,
+    }
+}
+
+fn told_place(told: Told) -> usize
+    ensures { result < 4 }
+{
+    match told {
+        Told::Missing => 0,
+        Told::Unfinished => 1,
+        Told::Passed => 2,
+        Told::Dropped => 3,
+    }
+}
+
+fn unread_place(reason: Unread) -> Option<usize>
+    ensures { IfSome result (λ place. place < 6) }
+{
+    match reason {
+        Unread::UnknownLink => Some(0),
+        Unread::Cut => Some(1),
+        Unread::BadInternet => Some(2),
+        Unread::Fragment => Some(3),
+        Unread::BadDatagram => Some(4),
+        Unread::BadSegment => Some(5),
+        Unread::NotInternet | Unread::OtherProtocol => None,
     }
 }
 
@@ -94,16 +114,36 @@ impl Stats {
             rows: BTreeMap::new(alloc),
             reasons: [0; 9],
             slow: Vec::new(alloc),
+            told: [0; 4],
+            unread: [0; 6],
         }
     }
 
-    /// Counts a message that ended with this packet at this time, and the call to which it answers.
+    /// Counts bytes of which something is said.
+    pub fn note(&mut self, told: Told, count: u64) {
+        let place = told_place(told);
+        self.told[place] = self.told[place].saturating_add(count);
+    }
+
+    /// Counts a packet that is not read.
+    pub fn unread(&mut self, reason: Unread) {
+        if let Some(place) = unread_place(reason) {
+            self.unread[place] = self.unread[place].saturating_add(1);
+        }
+    }
+
+    /// Counts a header that no record has.
+    pub fn refuse_record(&mut self) {
+        self.reasons[3] = self.reasons[3].saturating_add(1);
+    }
+
+    /// Counts a message that ended with this packet, and the call to which it answers. How long a reply took is not
+    /// known where it stood behind a hole.
     pub fn count(
         &mut self,
         page: &Page,
         asked: Option<Asked>,
-        frame: u64,
-        time: u64,
+        seen: Seen,
     ) -> Result<(), AllocError> {
         let mut refused = 0;
         if let Verdict::Refused(refusal) = page.verdict {
@@ -115,14 +155,15 @@ impl Stats {
             Said::Call { asked, .. } => self.add(target_of(asked), 1, 0, refused),
             Said::Reply { xid } => match asked {
                 Some(asked) => {
-                    let took = time.saturating_sub(asked.time);
                     let target = target_of(asked);
-                    self.note_slow(Slow {
-                        time: took,
-                        frame,
-                        xid,
-                        target,
-                    })?;
+                    if !seen.late {
+                        self.note_slow(Slow {
+                            time: seen.time.saturating_sub(asked.time),
+                            frame: seen.frame,
+                            xid,
+                            target,
+                        })?;
+                    }
                     self.add(target, 0, 1, refused)
                 }
                 None => Ok(()),
@@ -184,97 +225,5 @@ impl Stats {
             self.slow.insert(at, slow)?;
         }
         Ok(())
-    }
-
-    /// The tables: procedures, refusals, slowest replies. The error is an allocation failure.
-    pub fn text(&self, terms: &Terms<'_>) -> Result<String, AllocError> {
-        let alloc = self.alloc;
-        let form = terms.form;
-        let mut text = String::new(alloc);
-        for (target, row) in &self.rows {
-            let name = target_text(alloc, *target, terms)?;
-            let Row {
-                calls,
-                replies,
-                refused,
-            } = *row;
-            let line = match form {
-                Form::Lines => format!(in alloc;
-                    "procedure {} calls {calls} replies {replies} refused {refused}\n",
-                    name.as_str()
-                )?,
-                Form::Json => format!(in alloc;
-                    "{{\"type\":\"procedure\",\"name\":\"{}\",\"calls\":{calls},\"replies\":{replies},\
-                     \"refused\":{refused}}}\n",
-                    name.as_str()
-                )?,
-            };
-            text.push_str(line.as_str())?;
-        }
-        self.push_reasons(&mut text, form)?;
-        self.push_slow(&mut text, terms)?;
-        Ok(text)
-    }
-
-    // The reasons that came, and how often.
-    fn push_reasons(&self, text: &mut String, form: Form) -> Result<(), AllocError> {
-        let alloc = self.alloc;
-        for place in 0..9usize {
-            let count = self.reasons[place];
-            if count == 0 {
-                continue;
-            }
-            let name = REASONS[place];
-            let line = match form {
-                Form::Lines => format!(in alloc; "refused {name} {count}\n")?,
-                Form::Json => format!(in alloc;
-                    "{{\"type\":\"refused\",\"reason\":\"{name}\",\"count\":{count}}}\n"
-                )?,
-            };
-            text.push_str(line.as_str())?;
-        }
-        Ok(())
-    }
-
-    // The slowest replies.
-    fn push_slow(&self, text: &mut String, terms: &Terms<'_>) -> Result<(), AllocError> {
-        let alloc = self.alloc;
-        let form = terms.form;
-        for slow in &self.slow {
-            let name = target_text(alloc, slow.target, terms)?;
-            let Slow {
-                time,
-                frame,
-                xid,
-                ..
-            } = *slow;
-            let line = match form {
-                Form::Lines => format!(in alloc;
-                    "slow {time} ns packet {frame} xid {xid} {}\n",
-                    name.as_str()
-                )?,
-                Form::Json => format!(in alloc;
-                    "{{\"type\":\"slow\",\"nanoseconds\":\"{time}\",\"packet\":{frame},\"xid\":{xid},\
-                     \"name\":\"{}\"}}\n",
-                    name.as_str()
-                )?,
-            };
-            text.push_str(line.as_str())?;
-        }
-        Ok(())
-    }
-}
-
-// A procedure: its numbers, and its name where it is declared.
-fn target_text(alloc: Global, target: Target, terms: &Terms<'_>) -> Result<String, AllocError> {
-    let Target {
-        program,
-        version,
-        procedure,
-    } = target;
-    let settings = terms.settings(program);
-    match settings.declared.procedure(program, version, procedure) {
-        Some(found) => format!(in alloc; "{program}.{version}.{procedure} {}", found.name.as_str()),
-        None => format!(in alloc; "{program}.{version}.{procedure}"),
     }
 }
