@@ -172,7 +172,7 @@ DATAGRAMS = [
     ("the same where no port is named: the second is of no call", "", classic([*PAIR, TOLD], 101), 0, SHORT),
     ("a call whose end was not captured", "", classic([ASKED], 101, kept=80), 0, at(1, TO + b"missing 4 bytes\n") + NOTHING),
     ("what is no message, at a port that is named", "--port 111", classic([datagram(CLIENT, SERVER, b"abc")], 101), 1,
-     at(1, TO + b"record\nrefused Truncated at 0\n") + counts(0, 0, 1, 1, 0, 0)),
+     at(1, TO + b"record\nrefused Truncated at 3\n") + counts(0, 0, 1, 1, 0, 0)),
     ("a datagram without data", "--port 111", classic([datagram(CLIENT, SERVER, b"")], 101), 1,
      at(1, TO + b"record\nrefused Truncated at 0\n") + counts(0, 0, 1, 1, 0, 0)),
 ]

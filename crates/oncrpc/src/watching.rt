@@ -65,6 +65,6 @@ pub fn capture<O: Sink, F: Sink>(
         json: what.json,
         stats: what.stats,
     };
-    let mut input = FromRead::new(rt.stdin());
-    capture_over(known, &task, &mut opener, &mut input, output, faults)
+    let input = FromRead::new(rt.stdin());
+    capture_over(known, &task, &mut opener, input, output, faults)
 }

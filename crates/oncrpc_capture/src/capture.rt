@@ -1,10 +1,10 @@
 //! The messages of a capture, printed and judged.
-ghost use Rattle.std.specs.Prelude.{◌≡◌, ◌≤◌, IfOk, string_bytes};
+ghost use Rattle.std.specs.Prelude.{◌≡◌, ◌≤◌, IfOk};
 ghost use Rattle.xdr_lang.specs.Views.{declared_of};
 ghost use Rattle.oncrpc_messages.specs.Heads.{heads_of};
 ghost use Rattle.oncrpc_watch.specs.MessagesEnd.{form_of, terms_in};
 ghost use Rattle.oncrpc_watch.specs.Terms.{each_declared, terms_of};
-ghost use Rattle.oncrpc_capture.specs.CaptureEnd.{CaptureEnd, PrintsFrom};
+ghost use Rattle.oncrpc_capture.specs.CaptureEnd.{CaptureEnd, PrintsPackets};
 ghost use Rattle.oncrpc_capture.specs.Private.Steps.{PrintsBy};
 
 use crate::desk::Desk;
@@ -94,8 +94,8 @@ fn print_of<I: Source + Drop, O: Sink>(
     output: &mut O,
 ) -> Result<u8, Failure>
     ensures few { IfOk result (λ status. status ≤ 1) }
-    ensures prints { IfOk result (λ status. PrintsFrom (terms_of terms.now) what.now (I.left file)
-        (O.taken output.old) (O.taken output.new) status) }
+    ensures prints { IfOk result (λ status. PrintsPackets (terms_of terms.now) what.now.ports.items what.now.stats
+        (I.left file) (O.taken output.old) (O.taken output.new) status) }
 {
     let watch = Watch::new(known.alloc, terms);
     let mut desk = Desk::new(known.alloc, watch, &what.ports, what.stats);

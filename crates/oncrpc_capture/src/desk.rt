@@ -1,6 +1,7 @@
 //! What goes through the packets of a capture.
 //!
-//! - `reading`: the file, packet by packet. `datagrams` and `segments`: what packets carry. `ends`: connections that end.
+//! - `reading`: the file, packet by packet. `datagrams` and `segments`: what packets carry.
+//! - `ends`: connections that end.
 
 use crate::flows::Flows;
 use crate::pairs::Pairs;
@@ -34,9 +35,10 @@ pub struct Desk<'a> {
 
 impl<'a> Desk<'a> {
     ghost use Rattle.std.specs.Prelude.{◌≡◌, ◌≤◌, IfOk, is_some};
-    ghost use Rattle.oncrpc_capture.specs.Private.Steps.{Finishes};
+    ghost use Rattle.oncrpc_capture.specs.CaptureEnd.{PrintsPackets};
     ghost use Rattle.oncrpc_watch.specs.Represents.{IsAt};
     ghost use Rattle.oncrpc_watch.specs.Run.{nothing};
+    ghost use Rattle.oncrpc_watch.specs.Terms.{terms_of};
 
     /// Before the first packet.
     pub fn new(alloc: Global, watch: Watch<'a>, ports: &'a [u16], stats: bool) -> Desk<'a>
@@ -65,8 +67,9 @@ impl<'a> Desk<'a> {
         requires first { self.old.frame ≡ 0 }
         requires nothing { IsAt self.old.printing.watch nothing }
         ensures few { IfOk result (λ status. status ≤ 1) }
-        ensures prints { IfOk result (λ status. Finishes self.old.printing self.old.ports.now (I.left source)
-            (O.taken output.old) (O.taken output.new) status) }
+        ensures prints { IfOk result (λ status. PrintsPackets (terms_of self.old.printing.watch.terms)
+            self.old.ports.now (is_some self.old.printing.stats) (I.left source) (O.taken output.old)
+            (O.taken output.new) status) }
     {
         self.read(source, output)?;
         self.printing.close(output)?;

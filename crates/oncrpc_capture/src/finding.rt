@@ -1,5 +1,8 @@
 //! Where a record begins that reads as a message.
-ghost use Rattle.std.specs.Prelude.{◌<◌, length, IfSome};
+ghost use Rattle.std.specs.Prelude.{◌<◌, ◌↔◌, length, IfSome, IsTrue};
+ghost use Rattle.oncrpc_capture.specs.Brought.{BeginsCall};
+
+use xdr_units::first_word;
 
 /// How many bytes are looked at: a header, and four numbers (RFC 5531 sections 9 and 11).
 pub const LOOKED: usize = 20;
@@ -23,8 +26,8 @@ pub fn record_in(bytes: &[u8]) -> Option<usize>
     None
 }
 
-// Whether the first twenty of these bytes are the header of a last fragment and the front of a message that it may
-// have: of whole words, as many as such a message has at least (RFC 5531 section 9).
+// Whether the first twenty of these bytes are the header of a last fragment, and the front of a message that it may
+// have. A message has whole words, and a least size (RFC 5531 section 9).
 fn begins_record(bytes: &[u8]) -> bool {
     if bytes.len() < LOOKED {
         return false;
@@ -71,9 +74,20 @@ pub fn begins_message(bytes: &[u8]) -> bool {
     }
 }
 
-/// Whether bytes begin as a call of version 2 does.
-pub fn begins_call(bytes: &[u8]) -> bool {
-    bytes.len() >= 12 && word_at(bytes, 4) == 0 && word_at(bytes, 8) == 2
+/// Whether bytes begin as a call of version 2 does: behind its xid come 0 and 2.
+pub fn begins_call(bytes: &[u8]) -> bool
+    ensures { IsTrue result ↔ BeginsCall bytes.now }
+{
+    let Some((_xid, rest)) = first_word(bytes) else {
+        return false;
+    };
+    let Some((kind, rest)) = first_word(rest) else {
+        return false;
+    };
+    let Some((version, _rest)) = first_word(rest) else {
+        return false;
+    };
+    kind == 0 && version == 2
 }
 
 /// Whether bytes say that they are a reply.

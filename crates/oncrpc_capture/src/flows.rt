@@ -58,8 +58,8 @@ impl Flows {
         }
     }
 
-    /// Follows a new connection, and says its place. Where there are too many, the one that was not seen for the longest
-    /// time is forgotten.
+    /// Follows a new connection, and says its place. Where there are too many, the one that was not seen for the
+    /// longest time is forgotten.
     pub fn follow(&mut self, pair: Pair, known: bool) -> Result<usize, AllocError> {
         let place = self.pairs.follow(pair)?;
         let flow = Flow::new(self.alloc, known);

@@ -37,10 +37,15 @@ pub const AFTER_CAPTURE: &str =
 over UDP and TCP, each message behind the number of the packet that ends it, its
 time, and who sent it to whom. FILE is - for standard input. With --stats there are
 counts of procedures, of reasons and the slowest replies in place of messages.
-  missing N bytes                 the capture has a hole here
+  missing N bytes                 the capture does not have them
+  unfinished N bytes              they are of a record whose end is not there
   passed N bytes                  so many stand before the next record that is found
+  dropped N bytes                 so many were held, and all connections held too much
+  unread WHY                      the packet is not read: it is a fragment, is cut, or
+                                  its link or a header of it is none that is read
   refused WHY at N                the message is refused at its byte N
-  file refused WHY at N           the file is none, from the record at N on
+  record refused TooLong at 0     a header is that of no record
+  file refused WHY at N           the file is none, from its byte N on
 
 Without --port what looks like RPC is read, and over UDP a reply only to a call that
 was seen. With --port all that goes from or to such a port is.

@@ -1,18 +1,27 @@
 -- What was printed of a capture so far.
-use Rattle.std.specs.Prelude.{◌≡◌, ℕ, List, [], ◌++◌, Option, is_some, false}
+use Rattle.std.specs.Prelude.{◌≡◌, ℕ, Bool, true, false, List, [], ◌∷◌, ◌++◌, length, Option, is_some}
 use Rattle.std.specs.Io.KnownBytes.{Appends}
+use Rattle.capture_files.specs.declared.reader.CaptureReader.{CaptureReader}
+use Rattle.capture_files.specs.declared.reason.CaptureReason.{CaptureReason}
+use Rattle.capture_files.specs.declared.reason.CaptureReason.TheVariants.{Truncated}
+use Rattle.capture_files.specs.Represents.{Represents}
+use Rattle.capture_files.specs.Runs.{PacketView, capped}
 use Rattle.xdr_lang.specs.Declarations.{Declared}
 use Rattle.oncrpc_messages.specs.Heads.{AreHeads, heads_of}
 use Rattle.oncrpc_messages.specs.declared.heads.Heads as code
 use Rattle.oncrpc_watch.specs.Lines.{counts_line}
-use Rattle.oncrpc_watch.specs.MessagesEnd.{form_of, status_of}
+use Rattle.oncrpc_watch.specs.MessagesEnd.{terms_in}
 use Rattle.oncrpc_watch.specs.Represents.{IsAt}
-use Rattle.oncrpc_watch.specs.Run.{State, nothing}
+use Rattle.oncrpc_watch.specs.Run.{State}
 use Rattle.oncrpc_watch.specs.Terms.{terms_of}
-use Rattle.oncrpc_capture.specs.declared.task.CaptureTask.{CaptureTask}
-use Rattle.oncrpc_capture.specs.CaptureEnd.{PrintsAll}
 use Rattle.oncrpc_capture.specs.declared.printing.Printing.{Printing}
-use Rattle.oncrpc_capture.specs.Entries.{Entry, TellsEntries}
+use Rattle.oncrpc_capture.specs.declared.task.CaptureTask.{CaptureTask}
+use Rattle.oncrpc_capture.specs.Brought.{BringAll, of_ending}
+use Rattle.oncrpc_capture.specs.CaptureEnd.{PrintsNamed}
+use Rattle.oncrpc_capture.specs.Entries.{Entry, FileRefused, TellsEntries}
+use Rattle.oncrpc_capture.specs.Files.{CeasesAt, FileEnding, IsReadFile, reason_name}
+
+-- ---- entries
 
 -- The text of these entries was written, from a state on.
 pub record PrintsFrom (p new : Printing) (s : State) (entries : List Entry) (taken taken' : Option (List ℕ))
@@ -34,32 +43,70 @@ pub record PrintsSome (p new : Printing) (taken taken' : Option (List ℕ)) : Ty
   pub entries : List Entry
   pub prints : Prints p new entries taken taken'
 
+-- Entries were printed of which this holds.
+pub record PrintsOf (are : List Entry → Type 0) (p new : Printing) (taken taken' : Option (List ℕ)) : Type 0 where
+  pub entries : List Entry
+  pub those : are entries
+  pub prints : Prints p new entries taken taken'
+
+-- ---- the packets of a file
+
+-- The reader has taken these bytes, and all that their packets bring was printed since. This is the number of the last.
+pub record IsThrough (reader : CaptureReader) (bytes ports : List ℕ) (frame : ℕ) (p new : Printing)
+    (taken taken' : Option (List ℕ)) : Type 0 where
+  pub packets : List PacketView
+  pub entries : List Entry
+  pub represents : Represents reader bytes packets
+  pub brings : BringAll ports 1 packets entries
+  pub frame_is : frame ≡ capped (length packets)
+  pub prints : Prints p new entries taken taken'
+
+-- The bytes cease to be a capture, and that was printed behind all that their packets bring.
+pub record IsBrokenOff (bytes ports : List ℕ) (p new : Printing) (taken taken' : Option (List ℕ)) : Type 0 where
+  pub packets : List PacketView
+  pub entries : List Entry
+  pub why : CaptureReason
+  pub at : ℕ
+  pub ceases : CeasesAt why at bytes packets
+  pub more : why ≡ Truncated → ⊥
+  pub brings : BringAll ports 1 packets entries
+  pub prints : Prints p new (entries ++ FileRefused (reason_name why) at ∷ []) taken taken'
+
+-- what is known of the bytes behind a piece: they go on, or cease to be a capture
+abbrev pub IsFed : (more : Bool) → CaptureReader → (bytes ports : List ℕ) → (frame : ℕ) → (p new : Printing)
+    → (taken taken' : Option (List ℕ)) → Type 0
+IsFed true reader bytes ports frame p new taken taken' = IsThrough reader bytes ports frame p new taken taken'
+IsFed false reader bytes ports frame p new taken taken' = IsBrokenOff bytes ports p new taken taken'
+
+-- What taking a piece does, whatever bytes came before and whatever was printed of them.
+abbrev pub Feeds : (more : Bool) → (p new : Printing) → (ports : List ℕ) → (frame frame' : ℕ)
+    → (reader reader' : CaptureReader) → (piece : List ℕ) → (taken taken' : Option (List ℕ)) → Type 0
+Feeds more p new ports frame frame' reader reader' piece taken taken' =
+    (first : Printing) (begun : Option (List ℕ)) (bytes : List ℕ)
+    → IsThrough reader bytes ports frame first p begun taken
+    → IsFed more reader' (bytes ++ piece) ports frame' first new begun taken'
+
+-- A file was read, and all that it has was printed.
+pub record HasRead (p new : Printing) (ports : List ℕ) (left taken taken' : Option (List ℕ)) : Type 0 where
+  pub packets : List PacketView
+  pub ending : FileEnding
+  pub brought : List Entry
+  pub last : List Entry
+  pub file : IsReadFile left packets ending
+  pub brings : BringAll ports 1 packets brought
+  pub prints : Prints p new (brought ++ (of_ending ending ++ last)) taken taken'
+
+-- ---- the whole
+
 -- The counts were written, behind whatever tables where there are some.
 pub record Closes (p : Printing) (taken taken' : Option (List ℕ)) : Type 0 where
   pub tables : List ℕ
   pub none : is_some p.stats ≡ false → tables ≡ []
   pub written : Appends taken taken' (tables ++ counts_line p.watch.terms.form p.watch.counts)
 
--- Some entries were printed, and then the counts. The status says whether anything was refused.
-pub record Finishes (p : Printing) (taken taken' : Option (List ℕ)) (status : ℕ) : Type 0 where
-  pub entries : List Entry
-  pub state : State
-  pub text : List ℕ
-  pub tables : List ℕ
-  pub tells : TellsEntries (terms_of p.watch.terms) (is_some p.stats) nothing entries state text
-  pub none : is_some p.stats ≡ false → tables ≡ []
-  pub written : Appends taken taken' (text ++ (tables ++ counts_line p.watch.terms.form state.counts))
-  pub status_is : status ≡ status_of state.counts.refused
-
--- The same by what is declared, and the types of heads.
-pub record PrintsBy (known : List Declared) (declared : Declared) (what : CaptureTask)
-    (taken taken' : Option (List ℕ)) (status : ℕ) : Type 0 where
+-- What the words name was read and printed, by what is declared and the types of heads.
+pub record PrintsBy (known : List Declared) (declared : Declared) (reported : List ℕ → Option (List ℕ))
+    (what : CaptureTask) (left taken taken' : Option (List ℕ)) (status : ℕ) : Type 0 where
   pub heads : code.Heads
   pub are_heads : AreHeads heads
-  pub prints : PrintsAll (record {
-    declared = declared;
-    known = known;
-    heads = heads_of heads;
-    limits = record { depth = 4096; bytes = 16777216 };
-    form = form_of what.json;
-  }) what taken taken' status
+  pub prints : PrintsNamed (terms_in known declared (heads_of heads) what.json) reported what left taken taken' status

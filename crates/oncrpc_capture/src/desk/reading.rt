@@ -1,4 +1,7 @@
 //! The file, packet by packet.
+ghost use Rattle.std.specs.Prelude.{◌≡◌};
+ghost use Rattle.oncrpc_capture.specs.Files.{reason_name};
+
 use super::Desk;
 use crate::clock::time_of;
 use crate::told::is_unread;
@@ -8,11 +11,12 @@ use oncrpc_answers::Failure;
 use xdr_io::{Sink, Source};
 
 impl<'a> Desk<'a> {
-    ghost use Rattle.std.specs.Prelude.{◌≡◌, ◌∷◌, [], true, IfOk, OnOk};
+    ghost use Rattle.std.specs.Prelude.{◌≡◌, ◌∷◌, [], IfOk, OnOk};
     ghost use Rattle.capture_files.specs.Represents.{captured_view};
     ghost use Rattle.oncrpc_capture.specs.Brought.{Brings};
     ghost use Rattle.oncrpc_capture.specs.Entries.{FileRefused};
-    ghost use Rattle.oncrpc_capture.specs.Private.Steps.{Feeds, HasRead, Prints, PrintsOf, reason_name};
+    ghost use Rattle.oncrpc_capture.specs.Files.{reason_name};
+    ghost use Rattle.oncrpc_capture.specs.Private.Steps.{Feeds, HasRead, Prints, PrintsOf};
 
     /// Reads a file to its end, and prints what it has.
     pub(super) fn read<I: Source + Drop, O: Sink>(
@@ -66,6 +70,13 @@ impl<'a> Desk<'a> {
                         self.packet(packet, output)?;
                     }
                 }
+                // (a piece does not end the file)
+                Err(
+                    CaptureFault {
+                        reason: CaptureReason::Truncated,
+                        ..
+                    },
+                ) => return Err(Failure::Read),
                 Err(fault) => {
                     self.refuse_file(fault, output)?;
                     return Ok(false);

@@ -1,6 +1,0 @@
-use Rattle.oncrpc_capture.specs.Private.Steps.{PrintsSome}
-use Rattle.oncrpc_capture.proofs.capture.Desk.read.Given as goal
-
-abbrev pub invariant-reads : goal.invariant-reads
-invariant-reads g l = PrintsSome l.fn.self.printing l.self.printing (g.O.Sink.taken l.fn.output)
-    (g.O.Sink.taken l.output)
