@@ -163,9 +163,8 @@ impl Side {
             self.missing = missing;
             self.broken = self.give_up();
         }
-        match &mut self.direction {
-            Some(direction) => direction.hand_on(&mut self.due)?,
-            None => {}
+        if let Some(direction) = &mut self.direction {
+            direction.hand_on(&mut self.due)?;
         }
         Ok(true)
     }
