@@ -100,11 +100,10 @@ impl Side {
         self.first = first;
         self.end = first;
         self.is_whole = false;
-        self.next = if segment.flags.syn {
-            Next::First
-        } else {
-            Next::Lost
-        };
+        self.next = Next::Lost;
+        if segment.flags.syn {
+            self.next = Next::First;
+        }
     }
 
     /// Notes a segment: the number and the time of its packet, and where its bytes end.
@@ -172,10 +171,10 @@ impl Side {
     /// Gives up the bytes that no record was made of, and says what is to be said of them. The next record has to be
     /// found.
     pub fn give_up(&mut self) -> Option<(Told, u64)> {
-        let left = self.untaken().len() as u64;
+        let left = self.passed.saturating_add(self.untaken().len() as u64);
         let (told, count) = match self.next {
             Next::Here => (Told::Unfinished, self.begun),
-            Next::First | Next::Lost => (Told::Passed, self.passed.saturating_add(left)),
+            Next::First | Next::Lost => (Told::Passed, left),
         };
         self.reader = RecordReader::start(self.alloc, MOST_RECORD);
         self.begun = 0;
