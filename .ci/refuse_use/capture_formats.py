@@ -158,6 +158,10 @@ HEADERS = [
      at(1, TO + b"call 8 100000.2.0 NULL AUTH_NONE\n") + ONE),
     ("a data offset of TCP below its header", "", classic([ip4(CLIENT, SERVER, 6, bytes(12) + b"\x40" + bytes(7))], 101), 0,
      unread(1, b"BadSegment") + NOTHING),
+    ("segments of which the headers alone were captured", "--port 111", classic([SYN, of_client(100, null(0))], kept=54), 0,
+     at(2, TO + b"missing 44 bytes\n") + NOTHING),
+    ("the same in the midst", "--port 111", classic([of_client(100, null(0)), of_client(144, null(0))], kept=54), 0,
+     at(2, TO + b"missing 88 bytes\n") + NOTHING),
     ("another protocol", "", classic([ip4(CLIENT, SERVER, 1, bytes(20))], 101), 0, NOTHING),
 ]
 DATAGRAMS = [

@@ -1,5 +1,6 @@
 """Rows of 'oncrpc capture': files worked by hand, those of a capture whose messages tshark names, and hostile ones."""
 import os
+import random
 import shutil
 import subprocess
 import tempfile
@@ -9,7 +10,7 @@ from refuse_use.capture_formats import FORMATS, PAIR
 from refuse_use.capture_hostile import hostile_rows
 from refuse_use.capture_made import GETPORT, SYN, SYN_ACK, null, of_client, of_server, void
 from refuse_use.messages_streams import ROOT, RPCBIND, Sweep, counts, words
-from refuse_use.packets import CLIENT, SERVER, classic, datagram, ethernet, ip4, udp
+from refuse_use.packets import CLIENT, SERVER, classic, datagram, ethernet, frames, ip4, segment, segments, udp
 
 CAPTURES = f"{ROOT}/tests/captures"
 # A hole in a record, a packet that is not read, and bytes behind which no record comes; a header that no record has.
@@ -128,6 +129,35 @@ def named(program):
     return ""
 
 
+def mixed(path, chance):
+    """The segments of a capture, each in pieces of some bytes, out of order, and each of them twice."""
+    packets = []
+    for source, target, number, begins, content in segments(path):
+        cut = sorted({0, len(content), *(chance.randrange(len(content) + 1) for _ in range(4))})
+        pieces = [segment(source, target, number + at, content[at:end]) for at, end in zip(cut, cut[1:])] * 2
+        chance.shuffle(pieces)
+        packets += [segment(source, target, number, b"", begins)] if begins else pieces
+    return classic(packets, 101)
+
+
+def found_mixed(program):
+    """The messages over TCP of a capture are found in its segments when these are mixed."""
+    path, told = f"{CAPTURES}/libnfs.pcap", set()
+    over_udp = {str(count + 1) for count, (frame, _) in enumerate(frames(path)) if frame[23] == 17}
+    with open(f"{CAPTURES}/libnfs.txt", encoding="ascii") as it:
+        wanted = [tuple(line[1:4]) for line in map(str.split, it) if line[0] not in over_udp]
+    for seed in range(9):
+        ended = subprocess.run(
+            [program, "capture", "-"], input=mixed(path, random.Random(seed)), capture_output=True, timeout=120
+        )
+        lines = [it.split() for it in ended.stdout.decode().splitlines()]
+        got = [tuple(it[5:8]) for it in lines if it[5:6] in (["call"], ["reply"]) and it[3] == ">"]
+        told |= {it[5] for it in lines if it[3:4] == [">"]}
+        if (ended.returncode, got, told) != (0, wanted, {"call", "reply"}):
+            return f"seed {seed}: {len(got)} messages of {len(wanted)}, {told}, {lines[-1:]}"
+    return ""
+
+
 def placed(folder):
     """The program in a folder of its own, with the installed texts beside it."""
     os.makedirs(f"{folder}/bin")
@@ -143,5 +173,8 @@ def capture_rows(program, folder, heap):
     with tempfile.TemporaryDirectory() as room:
         said = named(placed(room))
         print(f"capture of tests/captures/libnfs.pcap: {said or 'as tshark names it'}")
+        yield not said
+        said = found_mixed(placed(f"{room}/mixed"))
+        print(f"capture of its segments in pieces, twice and out of order: {said or 'the same'}")
         yield not said
     yield from hostile_rows(program, row_of(sweep, False))

@@ -1,11 +1,11 @@
 //! The messages of a capture, printed and judged.
-ghost use Rattle.std.specs.Prelude.{◌≡◌, ◌≤◌, IfOk};
+ghost use Rattle.std.specs.Prelude.{◌≡◌, ◌≤◌, IfOk, string_bytes};
 ghost use Rattle.xdr_lang.specs.Views.{declared_of};
 ghost use Rattle.oncrpc_messages.specs.Heads.{heads_of};
 ghost use Rattle.oncrpc_watch.specs.MessagesEnd.{form_of, terms_in};
 ghost use Rattle.oncrpc_watch.specs.Terms.{each_declared, terms_of};
 ghost use Rattle.oncrpc_capture.specs.CaptureEnd.{CaptureEnd, PrintsPackets};
-ghost use Rattle.oncrpc_capture.specs.Private.Steps.{PrintsBy};
+ghost use Rattle.oncrpc_capture.specs.Private.Steps.{IsOpened, PrintsBy};
 
 use crate::desk::Desk;
 use crate::task::CaptureTask;
@@ -31,37 +31,59 @@ pub fn capture_over<P: Opener, I: Source + Drop, O: Sink, F: Sink>(
     ensures { CaptureEnd (each_declared known.entry.texts.now) (P.reported opener.old) what.now (I.left input)
         O.taken output.old output.new result }
 {
+    let file = match file_of(what, opener) {
+        Ok(file) => file,
+        Err(failure) => return report(failure, faults),
+    };
     let declared = match declared(known.alloc, &what.types, opener) {
         Ok(declared) => declared,
         Err(why) => return refuse_texts(known.alloc, why, &what.types.files, faults),
     };
-    match print_by(known, what, &declared, opener, input, output) {
+    match print_by(known, what, &declared, file, input, output) {
         Ok(status) => status,
         Err(failure) => report(failure, faults),
     }
 }
 
-// The messages, by what is declared: of the input, or of the file that is named.
-fn print_by<P: Opener, I: Source + Drop, O: Sink>(
+// The file that is named; none where that is the input.
+fn file_of<P: Opener>(what: &CaptureTask, opener: &mut P) -> Result<Option<P::Text>, Failure>
+    ensures opened { IfOk result (λ file. IsOpened P.Text.left (P.reported opener.old) (string_bytes what.now.file)
+        file) }
+    ensures same { P.reported opener.new ≡ P.reported opener.old }
+{
+    if what.file.as_str() == "-" {
+        return Ok(None);
+    }
+    match opener.open(what.file.as_str()) {
+        Ok(file) => Ok(Some(file)),
+        Err(_) => Err(Failure::Read),
+    }
+}
+
+// The messages, by what is declared: of the file, or of the input.
+fn print_by<R: Source + Drop, I: Source + Drop, O: Sink>(
     known: Known<'_>,
     what: &CaptureTask,
     declared: &Declared,
-    opener: &mut P,
+    file: Option<R>,
     input: I,
     output: &mut O,
 ) -> Result<u8, Failure>
     ensures few { IfOk result (λ status. status ≤ 1) }
-    ensures prints { IfOk result (λ status. PrintsBy (each_declared known.entry.texts.now) (declared_of declared.now)
-        (P.reported opener.old) what.now (I.left input) (O.taken output.old) (O.taken output.new) status) }
+    ensures prints { IfOk result (λ status. PrintsBy R.left (each_declared known.entry.texts.now)
+        (declared_of declared.now) what.now file (I.left input) (O.taken output.old) (O.taken output.new) status) }
 {
     let heads = read_heads(known.alloc)?;
     let terms = terms_by(known, declared, &heads, what.json);
-    if what.file.as_str() == "-" {
-        return print_of(&terms, known, what, input, output);
-    }
-    match opener.open(what.file.as_str()) {
-        Ok(file) => print_of(&terms, known, what, file, output),
-        Err(_) => Err(Failure::Read),
+    match file {
+        None => {
+            let status = print_of(&terms, known, what, input, output)?;
+            Ok(status)
+        }
+        Some(file) => {
+            let printed = print_of(&terms, known, what, file, output)?;
+            Ok(printed)
+        }
     }
 }
 

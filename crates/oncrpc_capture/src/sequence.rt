@@ -10,6 +10,11 @@ pub fn first_of(segment: Segment<'_>) -> u32 {
     }
 }
 
+/// Whether a segment has no byte, captured or not.
+pub fn is_empty(segment: Segment<'_>) -> bool {
+    segment.bytes.is_empty() && segment.missing == 0
+}
+
 /// The sequence number behind the last byte of a segment, whether it was captured or not.
 pub fn end_of(segment: Segment<'_>) -> u32 {
     let size = segment.bytes.len().saturating_add(segment.missing);

@@ -1,6 +1,6 @@
 //! One direction of a connection over TCP.
 use crate::finding::{LOOKED, MOST_RECORD, begins_fragment, record_in};
-use crate::sequence::{end_of, first_of};
+use crate::sequence::{end_of, first_of, is_empty};
 use crate::step::Step;
 use crate::told::Told;
 use capture_packets::Segment;
@@ -81,7 +81,7 @@ impl Side {
         if segment.flags.syn {
             return first_of(segment) != self.first;
         }
-        if segment.bytes.is_empty() {
+        if is_empty(segment) {
             return false;
         }
         match direction.end(end_of(segment)) {
@@ -92,7 +92,7 @@ impl Side {
 
     /// Begins with this segment, where nothing has begun. Where its beginning was seen the first record stands there.
     pub fn begin(&mut self, segment: Segment<'_>) {
-        if self.direction.is_some() || !segment.flags.syn && segment.bytes.is_empty() {
+        if self.direction.is_some() || !segment.flags.syn && is_empty(segment) {
             return;
         }
         let first = first_of(segment);

@@ -1,6 +1,6 @@
 -- What was printed of a capture so far.
-use Rattle.std.specs.Prelude.{◌≡◌, ℕ, Bool, true, false, List, [], ◌∷◌, ◌++◌, length, Option, is_some}
-use Rattle.std.specs.Io.KnownBytes.{Appends}
+use Rattle.std.specs.Prelude.{◌≡◌, ℕ, Bool, true, false, List, [], ◌∷◌, ◌++◌, length, codes, Option, None, Some, is_some}
+use Rattle.std.specs.Io.KnownBytes.{Appends, Keeps}
 use Rattle.capture_files.specs.declared.reader.CaptureReader.{CaptureReader}
 use Rattle.capture_files.specs.declared.reason.CaptureReason.{CaptureReason}
 use Rattle.capture_files.specs.declared.reason.CaptureReason.TheVariants.{Truncated}
@@ -17,7 +17,7 @@ use Rattle.oncrpc_watch.specs.Terms.{terms_of}
 use Rattle.oncrpc_capture.specs.declared.printing.Printing.{Printing}
 use Rattle.oncrpc_capture.specs.declared.task.CaptureTask.{CaptureTask}
 use Rattle.oncrpc_capture.specs.Brought.{BringAll, of_ending}
-use Rattle.oncrpc_capture.specs.CaptureEnd.{PrintsNamed}
+use Rattle.oncrpc_capture.specs.CaptureEnd.{PrintsPackets}
 use Rattle.oncrpc_capture.specs.Entries.{Entry, FileRefused, TellsEntries}
 use Rattle.oncrpc_capture.specs.Files.{CeasesAt, FileEnding, IsReadFile, reason_name}
 
@@ -104,9 +104,21 @@ pub record Closes (p : Printing) (taken taken' : Option (List ℕ)) : Type 0 whe
   pub none : is_some p.stats ≡ false → tables ≡ []
   pub written : Appends taken taken' (tables ++ counts_line p.watch.terms.form p.watch.counts)
 
--- What the words name was read and printed, by what is declared and the types of heads.
-pub record PrintsBy (known : List Declared) (declared : Declared) (reported : List ℕ → Option (List ℕ))
-    (what : CaptureTask) (left taken taken' : Option (List ℕ)) (status : ℕ) : Type 0 where
+-- the file of this name was opened, and has what is reported of it; or none was, since the name is that of the input
+abbrev pub IsOpened : {T : Type 0} → (T → Option (List ℕ)) → (List ℕ → Option (List ℕ)) → (name : List ℕ) → Option T
+    → Type 0
+IsOpened left reported name None = name ≡ codes "-"
+IsOpened left reported name (Some file) = (name ≡ codes "-" → ⊥) × Keeps (reported name) (left file)
+
+-- what the file has left, where there is one, else the input
+abbrev pub given_of : {T : Type 0} → (T → Option (List ℕ)) → Option T → (left : Option (List ℕ)) → Option (List ℕ)
+given_of left_of None left = left
+given_of left_of (Some file) left = left_of file
+
+-- The file or the input was read and printed, by what is declared and the types of heads.
+pub record PrintsBy {T : Type 0} (left_of : T → Option (List ℕ)) (known : List Declared) (declared : Declared)
+    (what : CaptureTask) (file : Option T) (left taken taken' : Option (List ℕ)) (status : ℕ) : Type 0 where
   pub heads : code.Heads
   pub are_heads : AreHeads heads
-  pub prints : PrintsNamed (terms_in known declared (heads_of heads) what.json) reported what left taken taken' status
+  pub prints : PrintsPackets (terms_in known declared (heads_of heads) what.json) what.ports.items what.stats
+      (given_of left_of file left) taken taken' status
