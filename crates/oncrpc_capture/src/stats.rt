@@ -3,7 +3,7 @@ ghost use Rattle.std.specs.Prelude.{◌<◌, IfSome};
 
 use crate::seen::Seen;
 use crate::told::Told;
-use capture_packets::Reason as Unread;
+use capture_packets::Reason as PacketReason;
 use oncrpc_messages::{Asked, Page, Said, Verdict, Why};
 use std::alloc::{AllocError, Global};
 use std::collections::BTreeMap;
@@ -75,17 +75,17 @@ fn told_place(told: Told) -> usize
     }
 }
 
-fn unread_place(reason: Unread) -> Option<usize>
+fn unread_place(reason: PacketReason) -> Option<usize>
     ensures { IfSome result (λ place. place < 6) }
 {
     match reason {
-        Unread::UnknownLink => Some(0),
-        Unread::Cut => Some(1),
-        Unread::BadInternet => Some(2),
-        Unread::Fragment => Some(3),
-        Unread::BadDatagram => Some(4),
-        Unread::BadSegment => Some(5),
-        Unread::NotInternet | Unread::OtherProtocol => None,
+        PacketReason::UnknownLink => Some(0),
+        PacketReason::Cut => Some(1),
+        PacketReason::BadInternet => Some(2),
+        PacketReason::Fragment => Some(3),
+        PacketReason::BadDatagram => Some(4),
+        PacketReason::BadSegment => Some(5),
+        PacketReason::NotInternet | PacketReason::OtherProtocol => None,
     }
 }
 
@@ -126,7 +126,7 @@ impl Stats {
     }
 
     /// Counts a packet that is not read.
-    pub fn unread(&mut self, reason: Unread) {
+    pub fn unread(&mut self, reason: PacketReason) {
         if let Some(place) = unread_place(reason) {
             self.unread[place] = self.unread[place].saturating_add(1);
         }

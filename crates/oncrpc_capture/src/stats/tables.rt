@@ -2,7 +2,7 @@
 use super::{Row, Slow, Stats, Target};
 use crate::text::note_text;
 use crate::told::{Told, told_name, why_unread};
-use capture_packets::Reason as Unread;
+use capture_packets::Reason;
 use oncrpc_messages::Form;
 use oncrpc_watch::Terms;
 use std::alloc::{AllocError, Global};
@@ -21,16 +21,16 @@ const REASONS: [&str; 9] = [
 ];
 
 /// What is said of bytes, in the order in which it is told.
-const TOLD: [Told; 4] = [Told::Missing, Told::Unfinished, Told::Passed, Told::Dropped];
+const SAID: [Told; 4] = [Told::Missing, Told::Unfinished, Told::Passed, Told::Dropped];
 
 /// Why packets are not read, in the order in which it is told.
-const UNREAD: [Unread; 6] = [
-    Unread::UnknownLink,
-    Unread::Cut,
-    Unread::BadInternet,
-    Unread::Fragment,
-    Unread::BadDatagram,
-    Unread::BadSegment,
+const WHYS: [Reason; 6] = [
+    Reason::UnknownLink,
+    Reason::Cut,
+    Reason::BadInternet,
+    Reason::Fragment,
+    Reason::BadDatagram,
+    Reason::BadSegment,
 ];
 
 impl Stats {
@@ -98,7 +98,7 @@ impl Stats {
         for place in 0..4usize {
             let count = self.told[place];
             if count != 0 {
-                let line = note_text(self.alloc, form, told_name(TOLD[place]), count)?;
+                let line = note_text(self.alloc, form, told_name(SAID[place]), count)?;
                 text.push_str(line.as_str())?;
             }
         }
@@ -113,7 +113,7 @@ impl Stats {
             if count == 0 {
                 continue;
             }
-            let name = why_unread(UNREAD[place]);
+            let name = why_unread(WHYS[place]);
             let line = match form {
                 Form::Lines => format!(in alloc; "unread {name} {count}\n")?,
                 Form::Json => format!(in alloc;
