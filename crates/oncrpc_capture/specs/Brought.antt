@@ -1,6 +1,8 @@
 -- What the packets of a file bring: of a datagram one message (RFC 768, RFC 5531 section 9), and a line of a packet
 -- that is not read. What segments of TCP bring is any here, where their ports are wanted.
-use Rattle.std.specs.Prelude.{◌≡◌, ◌⊎◌, ℕ, zero, suc, ◌^◌, ◌<◌, Bool, true, false, List, [], ◌∷◌, ◌++◌, Contains}
+use Rattle.std.specs.Prelude.{◌≡◌, ◌⊎◌, ℕ, zero, suc, ◌^◌, ◌<◌, ◌==◌, ◌||◌, Bool, true, false, List, [], ◌∷◌, ◌++◌}
+use Rattle.std.specs.Prelude.{length}
+use Rattle.std.specs.List.{list_any}
 use Rattle.xdr_units.specs.Numbers.{word}
 use Rattle.capture_files.specs.Runs.{capped}
 use Rattle.capture_files.specs.Runs as file
@@ -15,8 +17,9 @@ use Rattle.oncrpc_capture.specs.Nodes.{IsSeen}
 use Rattle.oncrpc_capture.specs.Notes.{is_unread, told_name, why_unread}
 
 -- no port is named, or the packet is from or to one that is
-abbrev pub IsWanted : (ports : List ℕ) → (from to : ℕ) → Type 0
-IsWanted ports from to = (ports ≡ []) ⊎ (Contains ports from ⊎ Contains ports to)
+abbrev pub is_wanted : (ports : List ℕ) → (from to : ℕ) → Bool
+is_wanted ports from to =
+    (length ports == 0) || (list_any (λ (p : ℕ). p == from) ports || list_any (λ (p : ℕ). p == to) ports)
 
 -- the bytes begin as a call of version 2 does: behind its xid come 0 and 2 (RFC 5531 section 9)
 pub record BeginsCall (bytes : List ℕ) : Type 0 where
@@ -40,13 +43,13 @@ IsTold frame d entries = (seen : Seen) × IsSeen frame d.from d.to seen × IsTol
 
 -- What a datagram brings. One that is no message by itself may be the reply to a call that was heard, and is told then.
 pub record BringsDatagram (ports : List ℕ) (frame : ℕ) (d : DatagramView) (entries : List Entry) : Type 0 where
-  pub unwanted : (IsWanted ports d.from.port d.to.port → ⊥) → entries ≡ []
-  pub message : IsWanted ports d.from.port d.to.port → IsMessage ports d → IsTold frame d entries
+  pub unwanted : is_wanted ports d.from.port d.to.port ≡ false → entries ≡ []
+  pub message : is_wanted ports d.from.port d.to.port ≡ true → IsMessage ports d → IsTold frame d entries
   pub other : (entries ≡ []) ⊎ IsTold frame d entries
 
 -- what a segment brings: nothing, where its ports are not wanted
 abbrev pub BringsSegment : (ports : List ℕ) → SegmentView → List Entry → Type 0
-BringsSegment ports s entries = (IsWanted ports s.from.port s.to.port → ⊥) → entries ≡ []
+BringsSegment ports s entries = is_wanted ports s.from.port s.to.port ≡ false → entries ≡ []
 
 -- what a packet brings that carries neither
 abbrev pub BringsOther : (is_told : Bool) → (frame : ℕ) → Reason → List Entry → Type 0

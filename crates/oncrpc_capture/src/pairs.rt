@@ -1,6 +1,4 @@
 //! Who talks to whom.
-ghost use Rattle.std.specs.Prelude.{◌≤◌};
-
 use crate::seen::Seen;
 use std::alloc::{AllocError, Global};
 use std::collections::BTreeMap;

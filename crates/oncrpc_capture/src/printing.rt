@@ -19,7 +19,7 @@ pub struct Printing<'a> {
 }
 
 impl<'a> Printing<'a> {
-    ghost use Rattle.std.specs.Prelude.{◌≡◌, ◌∷◌, [], List, ℕ, IfOk, OnOk, is_some};
+    ghost use Rattle.std.specs.Prelude.{◌≡◌, ◌∷◌, [], IfOk, OnOk, is_some};
     ghost use Rattle.std.specs.Io.KnownBytes.{Appends};
     ghost use Rattle.oncrpc_messages.specs.Closing.{closed};
     ghost use Rattle.oncrpc_capture.specs.Entries.{FileRefused, Message, Note, TooLong, Unread, place_of};

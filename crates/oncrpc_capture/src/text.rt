@@ -1,5 +1,5 @@
 //! The lines of a capture.
-ghost use Rattle.std.specs.Prelude.{◌≡◌, ℕ, IfOk, string_bytes};
+ghost use Rattle.std.specs.Prelude.{◌≡◌, IfOk, string_bytes};
 ghost use Rattle.oncrpc_watch.specs.Events.{stream_line};
 ghost use Rattle.oncrpc_capture.specs.Texts.{behind, front_text, note_text, thousand_text, time_text, unread_text};
 

@@ -1,5 +1,5 @@
 //! What is said of bytes that no message has.
-ghost use Rattle.std.specs.Prelude.{◌≡◌, ◌<◌};
+ghost use Rattle.std.specs.Prelude.{◌≡◌};
 ghost use Rattle.oncrpc_capture.specs.Notes.{told_name, why_unread, is_unread};
 
 use capture_packets::Reason;

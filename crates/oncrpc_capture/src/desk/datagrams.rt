@@ -9,15 +9,15 @@ use oncrpc_answers::Failure;
 use xdr_io::Sink;
 
 impl<'a> Desk<'a> {
-    ghost use Rattle.std.specs.Prelude.{◌≡◌, ◌↔◌, IfOk, IsTrue, OnOk};
+    ghost use Rattle.std.specs.Prelude.{◌≡◌, OnOk};
     ghost use Rattle.capture_packets.specs.View.{datagram_view, endpoint_view};
-    ghost use Rattle.oncrpc_capture.specs.Brought.{BringsDatagram, IsWanted};
+    ghost use Rattle.oncrpc_capture.specs.Brought.{BringsDatagram, is_wanted};
     ghost use Rattle.oncrpc_capture.specs.Nodes.{IsSeen};
     ghost use Rattle.oncrpc_capture.specs.Private.Steps.{PrintsOf};
 
     // Whether traffic between these ports is RPC, or may be.
     pub(super) fn is_wanted(&self, from: u16, to: u16) -> bool
-        ensures { IsTrue result ↔ IsWanted self.now.ports.now from to }
+        ensures { result ≡ is_wanted self.now.ports.now from to }
     {
         self.ports.is_empty() || self.ports.contains(&from) || self.ports.contains(&to)
     }
