@@ -9,6 +9,7 @@ use Rattle.capture_files.specs.Runs as file
 use Rattle.capture_packets.specs.declared.reason.Reason.{Reason}
 use Rattle.capture_packets.specs.Packet.{DatagramView, SegmentView, PacketView, Datagram, Segment, Other}
 use Rattle.capture_packets.specs.Packets.{packet_of}
+use Rattle.oncrpc_messages.specs.Messages.{SaysReply}
 use Rattle.oncrpc_capture.specs.declared.seen.Seen.{Seen}
 use Rattle.oncrpc_capture.specs.declared.told.Told.TheVariants.{Missing}
 use Rattle.oncrpc_capture.specs.Entries.{Entry, FileRefused, Message, Note, Unread}
@@ -32,6 +33,10 @@ pub record BeginsCall (bytes : List ℕ) : Type 0 where
 abbrev pub IsMessage : (ports : List ℕ) → DatagramView → Type 0
 IsMessage ports d = (ports ≡ [] → ⊥) ⊎ BeginsCall d.content
 
+-- the bytes say that they are a reply (RFC 5531 section 9)
+abbrev pub SaysSome : (bytes : List ℕ) → Type 0
+SaysSome bytes = (xid : ℕ) × SaysReply xid bytes
+
 -- a message, or where the capture does not have its last bytes how many these are
 abbrev pub IsToldBy : (missing : ℕ) → Seen → (content : List ℕ) → List Entry → Type 0
 IsToldBy zero seen content entries = (way : ℕ) × (entries ≡ Message seen way content ∷ [])
@@ -41,11 +46,12 @@ IsToldBy (suc m) seen content entries = entries ≡ Note seen (told_name Missing
 abbrev pub IsTold : (frame : ℕ) → DatagramView → List Entry → Type 0
 IsTold frame d entries = (seen : Seen) × IsSeen frame d.from d.to seen × IsToldBy d.missing seen d.content entries
 
--- What a datagram brings. One that is no message by itself may be the reply to a call that was heard, and is told then.
+-- What a datagram brings. One that is no message by itself is told only where it says that it is a reply: to a call
+-- that was heard, which is not said here.
 pub record BringsDatagram (ports : List ℕ) (frame : ℕ) (d : DatagramView) (entries : List Entry) : Type 0 where
   pub unwanted : is_wanted ports d.from.port d.to.port ≡ false → entries ≡ []
   pub message : is_wanted ports d.from.port d.to.port ≡ true → IsMessage ports d → IsTold frame d entries
-  pub other : (entries ≡ []) ⊎ IsTold frame d entries
+  pub other : (entries ≡ []) ⊎ (IsTold frame d entries × (IsMessage ports d ⊎ SaysSome d.content))
 
 -- what a segment brings: nothing, where its ports are not wanted
 abbrev pub BringsSegment : (ports : List ℕ) → SegmentView → List Entry → Type 0
