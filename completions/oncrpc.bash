@@ -75,6 +75,7 @@ _oncrpc() {
         --port) : ;;
         *) mapfile -t COMPREPLY < <(compgen -W "--types --dialect --define --port --json --stats --help" -- "$word") ;;
         esac
+        ((COMP_CWORD != 2)) || [[ $word == -* ]] || { compopt -o filenames && mapfile -t COMPREPLY < <(compgen -f -- "$word"); }
         ;;
     info)
         case $before in

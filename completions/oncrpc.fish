@@ -55,6 +55,7 @@ complete -c oncrpc -n '__fish_seen_subcommand_from messages; and not __fish_seen
 complete -c oncrpc -n '__fish_seen_subcommand_from messages; and not __fish_seen_subcommand_from help' -l replies -r -F -d 'The file with the other direction of the connection'
 complete -c oncrpc -n '__fish_seen_subcommand_from messages; and not __fish_seen_subcommand_from help' -l json -d 'Print an object of JSON on a line for each message'
 complete -c oncrpc -n '__fish_seen_subcommand_from messages; and not __fish_seen_subcommand_from help' -s h -l help -d 'Print help'
+complete -c oncrpc -n '__fish_seen_subcommand_from capture; and not __fish_seen_subcommand_from help' -F -d 'A file of captured packets, pcap or pcapng, or - for standard input'
 complete -c oncrpc -n '__fish_seen_subcommand_from capture; and not __fish_seen_subcommand_from help' -l types -r -F -d 'A file of declarations in the XDR language, of at most 262144 bytes, or the name of an installed one, as mount'
 complete -c oncrpc -n '__fish_seen_subcommand_from capture; and not __fish_seen_subcommand_from help' -l dialect -x -a 'rpcgen' -d 'The dialect that the files are in, where it is not the RFCs'\'' language'
 complete -c oncrpc -n '__fish_seen_subcommand_from capture; and not __fish_seen_subcommand_from help' -l define -x -d 'A name that is defined for lines #ifdef: letters, digits and _, no digit first, and no value'
