@@ -1,4 +1,5 @@
 """Rows of 'oncrpc capture': files worked by hand, those of a capture whose messages tshark names, and hostile ones."""
+import json
 import os
 import random
 import shutil
@@ -10,7 +11,7 @@ from refuse_use.capture_formats import FORMATS, PAIR
 from refuse_use.capture_hostile import hostile_rows
 from refuse_use.capture_made import GETPORT, SYN, SYN_ACK, null, of_client, of_server, void
 from refuse_use.messages_streams import ROOT, RPCBIND, Sweep, counts, words
-from refuse_use.packets import CLIENT, SERVER, classic, datagram, ethernet, frames, ip4, segment, segments, udp
+from refuse_use.packets import CLIENT, SERVER, classic, connections, datagram, ethernet, frames, ip4, segment, segments, udp
 
 CAPTURES = f"{ROOT}/tests/captures"
 # A hole in a record, a packet that is not read, and bytes behind which no record comes; a header that no record has.
@@ -114,7 +115,7 @@ def named(program):
     with open(f"{CAPTURES}/libnfs.txt", encoding="ascii") as it:
         wanted = [it.split() for it in it]
     runs = (([f"{CAPTURES}/libnfs.pcap"], b""), (["-"], given))
-    ended = [subprocess.run([program, "capture", *words], input=it, capture_output=True, timeout=120) for words, it in runs]
+    ended = [subprocess.run([program, "capture", *line], input=it, capture_output=True, timeout=120) for line, it in runs]
     if ended[0].stdout != ended[1].stdout or (ended[0].returncode, ended[0].stderr) != (0, b""):
         return f"status {ended[0].returncode}: {ended[0].stdout[-200:]}, {ended[0].stderr}"
     lines = [it.split() for it in ended[0].stdout.decode().splitlines()]
@@ -158,6 +159,32 @@ def found_mixed(program):
     return ""
 
 
+def objects(printed):
+    """The objects of JSON that were printed, without what tells a packet, in an order of their own."""
+    found = [json.loads(it) for it in printed.splitlines()]
+    for it in found:
+        for member in ("packet", "time", "from", "to"):
+            it.pop(member, None)
+    return sorted(json.dumps(it, sort_keys=True) for it in found)
+
+
+def as_messages(program, room):
+    """Of the bytes of a connection 'capture' prints what 'messages' does, but for what tells the packets."""
+    for count, (calls, replies) in enumerate(connections(f"{CAPTURES}/libnfs.pcap")):
+        with open(f"{room}/replies.bin", "wb") as it:
+            it.write(replies)
+        packets = [SYN, SYN_ACK]
+        packets += [of_client(100 + at, calls[at : at + 999]) for at in range(0, len(calls), 999)]
+        packets += [of_server(500 + at, replies[at : at + 999]) for at in range(0, len(replies), 999)]
+        runs = ((["messages", "--replies", f"{room}/replies.bin"], calls), (["capture", "-", "--port", "111"], classic(packets)))
+        ended = [
+            subprocess.run([program, *line, "--json"], input=given, capture_output=True, timeout=120) for line, given in runs
+        ]
+        if objects(ended[0].stdout) != objects(ended[1].stdout) or [it.returncode for it in ended] != [0, 0]:
+            return f"connection {count}: {ended}"
+    return ""
+
+
 def placed(folder):
     """The program in a folder of its own, with the installed texts beside it."""
     os.makedirs(f"{folder}/bin")
@@ -173,6 +200,9 @@ def capture_rows(program, folder, heap):
     with tempfile.TemporaryDirectory() as room:
         said = named(placed(room))
         print(f"capture of tests/captures/libnfs.pcap: {said or 'as tshark names it'}")
+        yield not said
+        said = as_messages(placed(f"{room}/streams"), room)
+        print(f"capture of each of its connections beside messages: {said or 'the same'}")
         yield not said
         said = found_mixed(placed(f"{room}/mixed"))
         print(f"capture of its segments in pieces, twice and out of order: {said or 'the same'}")
