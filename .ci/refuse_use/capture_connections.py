@@ -157,6 +157,14 @@ HOLES = [
         + at(4, TO + null_line(4)) + counts(3, 1, 0, 0, 0, 0),
     ),
     (
+        "holes both ways: at the end the calls are read first",
+        "",
+        [SYN, SYN_ACK, of_client(100, null(0)), of_client(188, null(2)), of_server(500, void(0)), of_server(556, void(2))],
+        0,
+        at(3, TO + null_line(0)) + at(5, FROM + void_line(0)) + at(4, TO + b"missing 44 bytes\n") + at(4, TO + null_line(2))
+        + at(6, FROM + b"missing 28 bytes\n") + at(6, FROM + void_line(2)) + counts(2, 2, 0, 0, 0, 0),
+    ),
+    (
         "a hole that is filled late is none",
         "",
         [SYN, of_client(100, null(0)), of_client(188, null(2)), of_client(144, null(1))],

@@ -9,6 +9,8 @@ use std::alloc::{AllocError, Global};
 pub struct Flow {
     /// Whether it is known to be RPC.
     pub known: bool,
+    /// Whether the lower node calls, by the first message.
+    lower_calls: Option<bool>,
     up: Side,
     down: Side,
     /// How many bytes of memory it held when they were counted.
@@ -20,6 +22,7 @@ impl Flow {
     fn new(alloc: Global, known: bool) -> Flow {
         Flow {
             known,
+            lower_calls: None,
             up: Side::new(alloc),
             down: Side::new(alloc),
             counted: 0,
@@ -29,6 +32,14 @@ impl Flow {
     /// What one of the two nodes sends: the lower one, or the higher.
     pub fn side(&mut self, up: bool) -> &mut Side {
         if up { &mut self.up } else { &mut self.down }
+    }
+
+    /// A message of one of the two nodes was read: so it is RPC, and by the first one it is known who calls.
+    pub fn note_message(&mut self, up: bool, is_reply: bool) {
+        self.known = true;
+        if self.lower_calls.is_none() {
+            self.lower_calls = Some(up != is_reply);
+        }
     }
 
     // How many bytes of memory it holds, about.
@@ -82,6 +93,19 @@ impl Flows {
     pub fn last(&self, place: usize, up: bool) -> Option<(u64, u64)> {
         let flow = self.flows.get(place)?;
         Some(if up { flow.up.last() } else { flow.down.last() })
+    }
+
+    /// Whether the lower node of the connection at a place calls: by the first message, else by the greater port.
+    pub fn lower_calls(&self, place: usize) -> bool {
+        let by_message = match self.flows.get(place) {
+            Some(flow) => flow.lower_calls,
+            None => None,
+        };
+        match (by_message, self.pairs.pair(place)) {
+            (Some(lower), _) => lower,
+            (None, Some(pair)) => pair.low.port() >= pair.high.port(),
+            (None, None) => true,
+        }
     }
 
     /// Whether a segment is of another connection between the nodes at a place.

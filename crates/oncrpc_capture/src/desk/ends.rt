@@ -22,14 +22,15 @@ impl<'a> Desk<'a> {
         Ok(())
     }
 
-    /// Both directions of a connection end.
+    /// Both directions of a connection end, that of the calls first, so that replies behind holes have their calls.
     pub(super) fn end_flow<O: Sink>(&mut self, place: usize, output: &mut O) -> Result<(), Failure>
         ensures some { OnOk result (PrintsSome self.old.printing self.new.printing (O.taken output.old)
             (O.taken output.new)) }
         ensures same { (self.new.ports ≡ self.old.ports) × (self.new.frame ≡ self.old.frame) }
     {
-        self.end_side(place, true, output)?;
-        self.end_side(place, false, output)
+        let calls = self.flows.lower_calls(place);
+        self.end_side(place, calls, output)?;
+        self.end_side(place, !calls, output)
     }
 
     /// A direction ends: no hole in it is filled any more, and what is held behind holes is read. The packet of each

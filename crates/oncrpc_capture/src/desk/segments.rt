@@ -1,6 +1,7 @@
 //! Segments, and the messages that they bring to an end.
 use super::Desk;
 use super::datagrams::way_of;
+use crate::finding::is_reply;
 use crate::pairs::{Pair, pair_of};
 use crate::seen::Seen;
 use crate::sequence::first_of;
@@ -161,7 +162,7 @@ impl<'a> Desk<'a> {
             let known = flow.known;
             let step = flow.side(up).next(known, &mut self.record)?;
             if step == Step::Record {
-                flow.known = true;
+                flow.note_message(up, is_reply(&self.record));
             }
             match step {
                 Step::Waits => return Ok(()),
