@@ -8,6 +8,7 @@ import random
 import resource
 import struct
 import subprocess
+import tempfile
 
 from refuse_use.capture_connections import CONNECTIONS
 from refuse_use.capture_formats import ASKED, FORMATS, PAIR
@@ -191,14 +192,15 @@ LARGE = [
 
 def large(program):
     for what, options, pieces, status, wanted, most in LARGE:
-        run = subprocess.Popen([program, "capture", "-", *options.split()], stdin=subprocess.PIPE, stdout=subprocess.PIPE)
-        with run.stdin as given:
-            for it in pieces:
-                given.write(it)
-        printed = run.stdout.read().splitlines(keepends=True)
-        run.stdout.close()
-        _, ended, usage = os.wait4(run.pid, 0)
-        run.returncode = os.waitstatus_to_exitcode(ended)
+        with tempfile.TemporaryFile() as output:
+            run = subprocess.Popen([program, "capture", "-", *options.split()], stdin=subprocess.PIPE, stdout=output)
+            with run.stdin as given:
+                for it in pieces:
+                    given.write(it)
+            _, ended, usage = os.wait4(run.pid, 0)
+            run.returncode = os.waitstatus_to_exitcode(ended)
+            output.seek(0)
+            printed = output.read().splitlines(keepends=True)
         memory = usage.ru_maxrss >> 10
         well = (run.returncode, printed[-1:]) == (status, [wanted]) and memory <= most
         print(f"capture, {what}: {memory} MiB", *([] if well else [run.returncode, printed[-3:]]))
