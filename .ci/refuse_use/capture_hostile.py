@@ -14,7 +14,7 @@ from refuse_use.capture_connections import CONNECTIONS
 from refuse_use.capture_formats import ASKED, FORMATS, PAIR
 from refuse_use.capture_made import FROM, GETPORT, GETPORT_LINES, PORT, PORT_LINES, SYN, SYN_ACK, SYN_BIT, TO, at, null, null_line
 from refuse_use.capture_made import of_client, of_server
-from refuse_use.messages_streams import RPCBIND, counts, fragment
+from refuse_use.messages_streams import RPCBIND, call, counts, fragment
 from refuse_use.packets import block, classic, datagram, enhanced, interface, pcapng, section, simple
 
 # How many pairs are followed, what a direction holds behind a hole, and what a piece of it counts beside its bytes.
@@ -174,8 +174,8 @@ def hoarders(count, size):
 
 
 def long_records(count, size):
-    """So many connections, each with a record of so many zeros, which is no message."""
-    content, most = fragment(bytes(size)), 60000
+    """So many connections, each with a call behind which so many zeros stand in its record."""
+    content, most = fragment(call(7, 100000, 2, 0, bytes(size))), 60000
     yield classic([])
     for port in range(1000, 1000 + count):
         yield recorded(of_client(99, b"", SYN_BIT, port))
@@ -186,14 +186,14 @@ def long_records(count, size):
 # What rows are about, words, the pieces of the file, the status, the last line, and the most MiB of memory.
 LARGE = [
     ("4000 connections that hold 80,000 bytes each", "--port 111", hoarders(4000, 40000), 0, counts(1, 0, 0, 0, 0, 0), 330),
-    ("40 connections with a record of 8 MiB each", "--port 111", long_records(40, 8 << 20), 1, counts(0, 0, 40, 40, 0, 0), 64),
+    ("40 connections with a record of 8 MiB each", "", long_records(40, 8 << 20), 1, counts(40, 0, 0, 40, 0, 0), 64),
 ]
 
 
 def large(program):
     for what, options, pieces, status, wanted, most in LARGE:
         with tempfile.TemporaryFile() as output:
-            run = subprocess.Popen([program, "capture", "-", *options.split()], stdin=subprocess.PIPE, stdout=output)
+            run = subprocess.Popen([program, "capture", "-", *options.split(), *RPCBIND.split()], stdin=subprocess.PIPE, stdout=output)
             with run.stdin as given:
                 for it in pieces:
                     given.write(it)
