@@ -253,7 +253,8 @@ def as_it_comes(program):
     whole = pcapng(CONNECTION)
     # (the packet before the last ends before its padding and the length of its block)
     first = 48 + sum(32 + len(it) + -len(it) % 4 for it in CONNECTION[:2]) + 28 + len(CONNECTION[2])
-    run = subprocess.Popen([program, "capture", "-"], stdin=subprocess.PIPE, stdout=subprocess.PIPE)
+    words = [program, "capture", "-", *RPCBIND.split()]
+    run = subprocess.Popen(words, stdin=subprocess.PIPE, stdout=subprocess.PIPE)
     run.stdin.write(whole[:first])
     run.stdin.flush()
     lines = LINES[2].splitlines(keepends=True)
