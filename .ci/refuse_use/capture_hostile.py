@@ -6,6 +6,7 @@ What is wanted follows from the layouts of the formats, and from the bounds and 
 import os
 import random
 import resource
+import select
 import struct
 import subprocess
 import tempfile
@@ -257,8 +258,12 @@ def as_it_comes(program):
     run = subprocess.Popen(words, stdin=subprocess.PIPE, stdout=subprocess.PIPE)
     run.stdin.write(whole[:first])
     run.stdin.flush()
-    lines = LINES[2].splitlines(keepends=True)
-    got = b"".join(run.stdout.readline() for _ in lines)
+    got = b""
+    while len(got) < len(LINES[2]) and select.select([run.stdout], [], [], 30)[0]:
+        part = os.read(run.stdout.fileno(), 4096)
+        if not part:
+            break
+        got += part
     rest, _ = run.communicate(whole[first:], timeout=60)
     return got == LINES[2] and rest == LINES[3] + counts(1, 1, 0, 0, 0, 0)
 
