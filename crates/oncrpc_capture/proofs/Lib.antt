@@ -1,3 +1,4 @@
 pub mod Closed
+pub mod Nodes
 pub mod Printed
 pub mod Through

@@ -1,4 +1,6 @@
 //! When and from whom something came.
+ghost use Rattle.std.specs.Prelude.{◌≡◌, length};
+ghost use Rattle.std.specs.Net.Addr.{IsV4And, IsV6And, ipv4_octets, ipv6_segments, segments_of};
 ghost use Rattle.capture_packets.specs.View.{endpoint_view};
 ghost use Rattle.oncrpc_capture.specs.Nodes.{IsNode};
 
@@ -25,7 +27,10 @@ pub fn node_of(endpoint: Endpoint<'_>) -> SocketAddr
 }
 
 // An address of 4 bytes is one of IPv4, and one of 16 of IPv6.
-fn address_of(bytes: &[u8]) -> IpAddr {
+fn address_of(bytes: &[u8]) -> IpAddr
+    ensures four { length bytes.now ≡ 4 → IsV4And result (λ ip. ipv4_octets ip ≡ bytes.now) }
+    ensures sixteen { length bytes.now ≡ 16 → IsV6And result (λ ip. ipv6_segments ip ≡ segments_of bytes.now) }
+{
     match bytes {
         [a, b, c, d] => IpAddr::V4(Ipv4Addr::new(*a, *b, *c, *d)),
         _ => {
