@@ -5,6 +5,7 @@ What is wanted follows from the layouts of the formats, and from the bounds and 
 """
 import os
 import random
+import re
 import resource
 import select
 import struct
@@ -94,8 +95,8 @@ def cuts():
         there = sum(it <= size for it in ends[1:])
         place = max([it for it in ends if it <= size], default=0)
         is_cut = size not in ends
-        wanted = b"".join(LINES[:there]) + refused(b"Truncated", place) * is_cut + counts(there > 2, there > 3, 0, is_cut, 0, 0)
-        yield f"a file that is cut at byte {size}", "", whole[:size], int(is_cut), wanted
+        wanted = b"".join(LINES[:there]) + refused(b"Truncated", place) * is_cut
+        yield whole[:size], int(is_cut), wanted, counts(there > 2, there > 3, 0, is_cut, 0, 0)
 
 
 def block_cuts():
@@ -108,7 +109,21 @@ def block_cuts():
     for size in range(len(whole)):
         there = sum(it <= size for it in wholes)
         is_cut = size not in ends
-        yield size, whole[:size], int(is_cut), b"".join(LINES[:there]), counts(there > 2, there > 3, 0, is_cut, 0, 0)
+        yield whole[:size], int(is_cut), b"".join(LINES[:there]), counts(there > 2, there > 3, 0, is_cut, 0, 0)
+
+
+def cut_rows(program):
+    """Files that are cut at each byte. Of pcapng the place that is told is any, since it is that of a part of a block."""
+    for what, cases, told in (("the classic format", cuts(), rb""), ("pcapng", block_cuts(), rb"file refused Truncated at \d+\n")):
+        bad = []
+        for given, status, lines, last in cases:
+            ended = subprocess.run([program, "capture", "-", *RPCBIND.split()], input=given, capture_output=True, timeout=60)
+            said = ended.stdout.removeprefix(lines).removesuffix(last)
+            well = lines + said + last == ended.stdout and re.fullmatch(told if status else rb"", said)
+            if not well or (ended.returncode, ended.stderr) != (status, b""):
+                bad.append((len(given), ended))
+        print(f"capture, {what} that is cut at each byte: {len(bad)} wrong answers", *bad[:3])
+        yield not bad
 
 
 def held():
@@ -270,15 +285,9 @@ def as_it_comes(program):
 
 def hostile_rows(program, row):
     """Rows over hostile files; `row` runs one."""
-    for it in [*FILES, *cuts(), held(), many_holes(), forgotten(), talks()]:
+    for it in [*FILES, held(), many_holes(), forgotten(), talks()]:
         yield row(*it)
-    for size, given, status, lines, last in block_cuts():
-        ended = subprocess.run([program, "capture", "-", *RPCBIND.split()], input=given, capture_output=True, timeout=60)
-        told = ended.stdout.removeprefix(lines).removesuffix(last)
-        well = ended.returncode == status and told.startswith(b"file refused Truncated at " if status else b"")
-        yield well and ended.stdout == lines + told + last and told.count(b"\n") == status
-        if not well:
-            print(f"capture, pcapng that is cut at byte {size}:", ended)
+    yield from cut_rows(program)
     yield from large(program)
     bad = at_random(program, RANDOM)
     print(f"capture of {RANDOM} random files: {len(bad)} wrong answers", *bad[:3])
