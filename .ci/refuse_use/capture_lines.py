@@ -160,8 +160,12 @@ def found_mixed(program):
 
 
 def objects(printed):
-    """The objects of JSON that were printed, without what tells a packet, in an order of their own."""
-    found = [json.loads(it) for it in printed.splitlines()]
+    """The objects of JSON that were printed, without what tells a packet, in an order of their own; none, where it is no
+    JSON."""
+    try:
+        found = [json.loads(it) for it in printed.splitlines()]
+    except ValueError:
+        return []
     for it in found:
         for member in ("packet", "time", "from", "to"):
             it.pop(member, None)
@@ -180,7 +184,8 @@ def as_messages(program, room):
         ended = [
             subprocess.run([program, *line, "--json"], input=given, capture_output=True, timeout=120) for line, given in runs
         ]
-        if objects(ended[0].stdout) != objects(ended[1].stdout) or [it.returncode for it in ended] != [0, 0]:
+        told = [objects(it.stdout) for it in ended]
+        if told[0] != told[1] or not told[0] or [it.returncode for it in ended] != [0, 0]:
             return f"connection {count}: {ended}"
     return ""
 
