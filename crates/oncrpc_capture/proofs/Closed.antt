@@ -1,6 +1,7 @@
 -- A file was read and printed to its end.
 use Rattle.std.proofs.Common.{◌≡◌, ℕ, List, [], ◌∷◌, ◌++◌, Option, None, Some, refl, sym, ap, ◌∙◌, subst, append_assoc}
-use Rattle.std.specs.Prelude.{is_some, string_bytes, ⊤}
+use Rattle.std.specs.Prelude.{Bool, IfOk, Result, is_some, string_bytes, ⊤}
+use Rattle.oncrpc_answers.specs.declared.failure.Failure.{Failure}
 use Rattle.std.specs.Io.KnownBytes.{Consumes, IsAtEnd}
 use Rattle.capture_files.specs.declared.reason.CaptureReason.{CaptureReason}
 use Rattle.capture_files.specs.declared.reason.CaptureReason.TheVariants as reason
@@ -116,6 +117,21 @@ prints_packets p q ports left a b c status begun r y is = record {
   prints = prints_all p q (r.brought ++ (of_ending r.ending ++ r.last)) a b c status begun r.prints y is;
 }
 
+pub packets_in : (t t' : Terms) (ports : List ℕ) (stats : Bool) (left a b : Option (List ℕ)) (status : ℕ) → t ≡ t'
+    → PrintsPackets t ports stats left a b status → PrintsPackets t' ports stats left a b status
+packets_in t t' ports stats left a b status e h =
+    subst (λ (k : Terms). PrintsPackets k ports stats left a b status) e h
+
+-- the same where terms, ports and what is asked for are equal
+pub packets_same : (t t' : Terms) (ports ports' : List ℕ) (stats stats' : Bool) (left a b : Option (List ℕ))
+    (r : Result ℕ Failure) → t ≡ t' → ports ≡ ports' → stats ≡ stats'
+    → IfOk r (λ status. PrintsPackets t ports stats left a b status)
+    → IfOk r (λ status. PrintsPackets t' ports' stats' left a b status)
+packets_same t t' ports ports' stats stats' left a b r x y z h =
+    subst (λ (k : Terms). IfOk r (λ status. PrintsPackets k ports' stats' left a b status)) x
+    (subst (λ (k : List ℕ). IfOk r (λ status. PrintsPackets t k stats' left a b status)) y
+    (subst (λ (k : Bool). IfOk r (λ status. PrintsPackets t ports k left a b status)) z h))
+
 -- what was opened is what is reported
 prints_named : {T : Type 0} (left_of : T → Option (List ℕ)) (reported : List ℕ → Option (List ℕ)) (t : Terms)
     (what : CaptureTask) (file : Option T) (left taken taken' : Option (List ℕ)) (status : ℕ)
@@ -125,13 +141,13 @@ prints_named : {T : Type 0} (left_of : T → Option (List ℕ)) (reported : List
 prints_named left_of reported t what None left taken taken' status opened p = record {
   given = left;
   is_input = λ e. refl;
-  is_file = λ no. absurd (no opened);
+  is_file = λ other. absurd (other opened);
   prints = p;
 }
 prints_named left_of reported t what (Some file) left taken taken' status opened p = record {
   given = left_of file;
   is_input = λ e. absurd (opened.0 e);
-  is_file = λ no. opened.1;
+  is_file = λ other. opened.1;
   prints = p;
 }
 

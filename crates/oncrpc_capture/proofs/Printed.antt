@@ -1,8 +1,10 @@
 -- What is printed of a capture, one after another.
 use Rattle.std.proofs.Common.{◌≡◌, ℕ, Bool, true, false, List, [], ◌∷◌, ◌++◌, Option, refl, sym, ap, ◌∙◌, subst}
 use Rattle.std.proofs.Common.{append_assoc}
+use Rattle.std.proofs.lemmas.Bool.{false≢true}
 use Rattle.std.proofs.lemmas.List.{append-nil}
-use Rattle.std.specs.Prelude.{codes, is_some}
+use Rattle.std.specs.Prelude.{OnOk, Result, Ok, Err, codes, is_some}
+use Rattle.oncrpc_answers.specs.declared.failure.Failure.{Failure}
 use Rattle.std.specs.Io.KnownBytes.{Appends}
 use Rattle.xdr_io.proofs.Chained.{Appends-none, Appends-trans}
 use Rattle.oncrpc_messages.specs.Closing.{closed}
@@ -20,32 +22,26 @@ use Rattle.oncrpc_capture.specs.declared.seen.Seen.{Seen}
 use Rattle.oncrpc_capture.specs.CaptureEnd.{PrintsAll}
 use Rattle.oncrpc_capture.specs.Entries.{Entry, FileRefused, Message, Note, TooLong, Unread, TellsEntries, TellsEntry}
 use Rattle.oncrpc_capture.specs.Entries.{TellsMessage, place_of, refused_too}
-use Rattle.oncrpc_capture.specs.Private.Steps.{Closes, Prints, PrintsOf, PrintsSome}
+use Rattle.oncrpc_capture.specs.Private.Steps.{Closes, Prints, PrintsOf, PrintsSome, PutsTables}
 use Rattle.oncrpc_capture.specs.Texts.{behind, front_text, note_text, unread_text}
 
 tells_join : (t : Terms) (b : Bool) (s mid new : State) (xs ys : List Entry) (u v : List ℕ)
     → TellsEntries t b s xs mid u → TellsEntries t b mid ys new v → TellsEntries t b s (xs ++ ys) new (u ++ v)
+unfolding TellsEntries
 tells_join t b s mid new [] ys u v (same, none) q =
     subst (λ (x : List ℕ). TellsEntries t b s ys new (x ++ v)) (sym none)
     (subst (λ (x : State). TellsEntries t b x ys new v) same q)
-tells_join t b s mid new (e ∷ es) ys u v (m, (first, (rest, (one, (more, is))))) q = (
+tells_join t b s mid new (e ∷ es) ys u v (m, first, rest, one, more, is) q = (
   m,
-  (
-    first,
-    (
-      rest ++ v,
-      (
-        one,
-        (
-          tells_join t b m mid new es ys rest v more q,
-          ap (λ (x : List ℕ). x ++ v) is ∙ append_assoc first rest v,
-        ),
-      ),
-    ),
-  ),
+  first,
+  rest ++ v,
+  one,
+  tells_join t b m mid new es ys rest v more q,
+  ap (λ (x : List ℕ). x ++ v) is ∙ append_assoc first rest v,
 )
 
 pub prints_none : (p : Printing) (t : Option (List ℕ)) → Prints p p [] t t
+unfolding TellsEntries
 prints_none p t = record {
   terms = refl;
   stats = refl;
@@ -95,11 +91,17 @@ pub of_some : (are : List Entry → Type 0) (p q : Printing) (a b : Option (List
     → PrintsSome p q a b → PrintsOf are p q a b
 of_some are p q a b all x = record { entries = x.entries; those = all x.entries; prints = x.prints }
 
+-- what holds of a call that answers well
+pub on_ok : {A B : Type 0} (r : Result (Unit {0}) Failure) → (A → B) → OnOk r A → OnOk r B
+on_ok (Ok done) f h = f h
+on_ok (Err failure) f h = h
+
 -- ---- one entry
 
 tells_one : (t : Terms) (b : Bool) (s : State) (e : Entry) (new : State) (text : List ℕ) → TellsEntry t b s e new text
     → TellsEntries t b s (e ∷ []) new text
-tells_one t b s e new text h = (new, (text, ([], (h, ((refl, refl), sym (append-nil text))))))
+unfolding TellsEntries
+tells_one t b s e new text h = (new, text, [], h, (refl, refl), sym (append-nil text))
 
 -- an entry of which nothing is heard, and whose text was written or is none
 said_alone : (p q : Printing) (e : Entry) (text : List ℕ) (a b : Option (List ℕ)) → q.watch ≡ p.watch
@@ -225,7 +227,7 @@ module _ (p q : Printing) (seen : Seen) (way : ℕ) (bytes : List ℕ) (page : P
       text = [];
       tells = tells_one (terms_of p.watch.terms) (is_some p.stats) s (Message seen way bytes) _ []
           (subst (λ (x : Bool). TellsEntry (terms_of p.watch.terms) x s (Message seen way bytes)
-          (heard s way seen.time page asked) []) (sym e) (line, (message_told s h, refl)));
+          (heard s way seen.time page asked) []) (sym e) (line, message_told s h, refl));
       is_at = is_heard s h;
       written = Appends-none a;
     };
@@ -242,13 +244,31 @@ module _ (p q : Printing) (seen : Seen) (way : ℕ) (bytes : List ℕ) (page : P
       text = text;
       tells = tells_one (terms_of p.watch.terms) (is_some p.stats) s (Message seen way bytes) _ text
           (subst (λ (x : Bool). TellsEntry (terms_of p.watch.terms) x s (Message seen way bytes)
-          (heard s way seen.time page asked) text) (sym e) (line, (message_told s h, is)));
+          (heard s way seen.time page asked) text) (sym e) (line, message_told s h, is));
       is_at = is_heard s h;
       written = w;
     };
   }
 
 -- ---- the whole
+
+pub no_tables : (stats : Bool) (a : Option (List ℕ)) → PutsTables stats a a
+no_tables stats a = record { tables = []; none = λ e. refl; written = Appends-none a }
+
+pub some_tables : (text : List ℕ) (stats : Bool) (a b : Option (List ℕ)) → stats ≡ true → Appends a b text
+    → PutsTables stats a b
+some_tables text stats a b e w =
+    record { tables = text; none = λ f. absurd (false≢true (sym f ∙ e)); written = w }
+
+-- the counts behind the tables
+pub closes_with : (p : Printing) (line : List ℕ) (a b c : Option (List ℕ)) → PutsTables (is_some p.stats) a b
+    → line ≡ counts_line p.watch.terms.form p.watch.counts → Appends b c line → Closes p a c
+closes_with p line a b c t is w = record {
+  tables = t.tables;
+  none = t.none;
+  written = Appends-trans a b c t.tables line (t.tables ++ counts_line p.watch.terms.form p.watch.counts)
+      (ap (λ (k : List ℕ). t.tables ++ k) is) t.written w;
+}
 
 -- entries from the first on, and the counts
 pub prints_all : (p q : Printing) (entries : List Entry) (a b c : Option (List ℕ)) (status : ℕ) → IsAt p.watch nothing

@@ -19,29 +19,21 @@ use Rattle.oncrpc_capture.proofs.Printed.{prints_join, prints_none}
 pub brings_more : (ports : List ℕ) (number : ℕ) (ps : List PacketView) (p : PacketView) (xs ys : List Entry)
     → BringAll ports number ps xs → Brings ports (capped (number + length ps)) p ys
     → BringAll ports number (ps ++ p ∷ []) (xs ++ ys)
+unfolding BringAll
 brings_more ports number [] p xs ys none one = (
   ys,
-  (
-    [],
-    (
-      subst (λ (n : ℕ). Brings ports (capped n) p ys) (omega arith) one,
-      (refl, ap (λ (k : List Entry). k ++ ys) none ∙ sym (append-nil ys)),
-    ),
-  ),
+  [],
+  subst (λ (n : ℕ). Brings ports (capped n) p ys) (omega arith) one,
+  refl,
+  ap (λ (k : List Entry). k ++ ys) none ∙ sym (append-nil ys),
 )
-brings_more ports number (q ∷ ps) p xs ys (first, (rest, (here, (more, is)))) one = (
+brings_more ports number (q ∷ ps) p xs ys (first, rest, here, more, is) one = (
   first,
-  (
-    rest ++ ys,
-    (
-      here,
-      (
-        brings_more ports (suc number) ps p rest ys more
-            (subst (λ (n : ℕ). Brings ports (capped n) p ys) (omega arith) one),
-        ap (λ (k : List Entry). k ++ ys) is ∙ append_assoc first rest ys,
-      ),
-    ),
-  ),
+  rest ++ ys,
+  here,
+  brings_more ports (suc number) ps p rest ys more
+      (subst (λ (n : ℕ). Brings ports (capped n) p ys) (omega arith) one),
+  ap (λ (k : List Entry). k ++ ys) is ∙ append_assoc first rest ys,
 )
 
 -- ---- the packet that waits
@@ -51,6 +43,7 @@ listed None = []
 listed (Some v) = v ∷ []
 
 waits_listed : (g : Progress) (unit : List ℕ) → waits_at g unit ≡ listed (waiting_at g unit)
+unfolding listed
 waits_listed Gathering unit = refl
 waits_listed (Waiting found) unit = refl
 waits_listed (Broken fault) unit = refl
@@ -59,6 +52,7 @@ waits_listed (Broken fault) unit = refl
 
 pub through_start : (r : CaptureReader) (ports : List ℕ) (p : Printing) (a : Option (List ℕ)) → Represents r [] []
     → IsThrough r [] ports 0 p p a a
+unfolding BringAll
 through_start r ports p a h = record {
   packets = [];
   entries = [];
@@ -86,8 +80,9 @@ through_more r new bytes taken ports frame p q a b h takes open_is = record {
 -- bytes were taken that end a packet, and what it brings was printed
 pub through_packet : (r new : CaptureReader) (bytes taken ports : List ℕ) (frame frame' : ℕ) (p mid q : Printing)
     (a b c : Option (List ℕ)) (v : PacketView) → IsThrough r bytes ports frame p mid a b → Takes r new taken
-    → Some v ≡ waiting new → frame' ≡ min (frame + 1) (2 ^ 64 - 1) → PrintsOf (Brings ports frame' v) mid q b c
+    → Some v ≡ waiting new → frame' ≡ min (frame + 1) (2 ^ 64 - 1) → PrintsOf (λ es. Brings ports frame' v es) mid q b c
     → IsThrough new (bytes ++ taken) ports frame' p q a c
+unfolding listed
 through_packet r new bytes taken ports frame frame' p mid q a b c v h takes waits next one =
     let number : frame' ≡ capped (1 + length h.packets) = omega (arith, next, h.frame_is) in
     record {

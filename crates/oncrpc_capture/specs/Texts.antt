@@ -15,19 +15,22 @@ abbrev pub thousand_text : ℕ → List ℕ
 thousand_text n = decimal (n / 100 % 10) ++ decimal (n / 10 % 10) ++ decimal (n % 10)
 
 -- nanoseconds as seconds, a point and nine digits
-abbrev pub time_text : ℕ → List ℕ
+unfoldable pub time_text : ℕ → List ℕ
 time_text n =
     decimal (n / 1000000000) ++ codes "." ++ thousand_text (n / 1000000 % 1000) ++ thousand_text (n / 1000 % 1000)
     ++ thousand_text (n % 1000)
 
 -- what tells the packet of a message: its number, its time, and who sent it to whom
+abbrev pub front_of : Form → (frame : ℕ) → (time from to : List ℕ) → List ℕ
+front_of form.Lines frame time from to =
+    decimal frame ++ codes " " ++ time ++ codes " " ++ from ++ codes " > " ++ to ++ codes " "
+front_of form.Json frame time from to =
+    codes "{\"packet\":" ++ decimal frame ++ codes ",\"time\":\"" ++ time ++ codes "\",\"from\":\"" ++ from
+    ++ codes "\",\"to\":\"" ++ to ++ codes "\","
+
 abbrev pub front_text : Form → Seen → List ℕ
-front_text form.Lines seen =
-    decimal seen.frame ++ codes " " ++ time_text seen.time ++ codes " " ++ socket_text seen.from ++ codes " > "
-    ++ socket_text seen.to ++ codes " "
-front_text form.Json seen =
-    codes "{\"packet\":" ++ decimal seen.frame ++ codes ",\"time\":\"" ++ time_text seen.time
-    ++ codes "\",\"from\":\"" ++ socket_text seen.from ++ codes "\",\"to\":\"" ++ socket_text seen.to ++ codes "\","
+front_text form seen =
+    front_of form seen.frame (time_text seen.time) (socket_text seen.from) (socket_text seen.to)
 
 -- what is said of so many bytes
 abbrev pub note_text : Form → (what : List ℕ) → (count : ℕ) → List ℕ
@@ -36,9 +39,12 @@ note_text form.Json what count =
     codes "{\"type\":\"" ++ what ++ codes "\",\"bytes\":" ++ decimal count ++ codes "}\n"
 
 -- a packet that is not read, for a reason
-abbrev pub unread_text : Form → (frame time : ℕ) → (why : List ℕ) → List ℕ
-unread_text form.Lines frame time why =
-    decimal frame ++ codes " " ++ time_text time ++ codes " unread " ++ why ++ codes "\n"
-unread_text form.Json frame time why =
-    codes "{\"packet\":" ++ decimal frame ++ codes ",\"time\":\"" ++ time_text time
+abbrev pub unread_of : Form → (frame : ℕ) → (time why : List ℕ) → List ℕ
+unread_of form.Lines frame time why =
+    decimal frame ++ codes " " ++ time ++ codes " unread " ++ why ++ codes "\n"
+unread_of form.Json frame time why =
+    codes "{\"packet\":" ++ decimal frame ++ codes ",\"time\":\"" ++ time
     ++ codes "\",\"type\":\"unread\",\"why\":\"" ++ why ++ codes "\"}\n"
+
+abbrev pub unread_text : Form → (frame time : ℕ) → (why : List ℕ) → List ℕ
+unread_text form frame time why = unread_of form frame (time_text time) why

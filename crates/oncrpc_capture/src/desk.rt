@@ -3,6 +3,9 @@
 //! - `reading`: the file, packet by packet. `datagrams` and `segments`: what packets carry.
 //! - `ends`: connections that end.
 
+ghost use Rattle.std.specs.Prelude.{◌≡◌, ◌≤◌};
+ghost use Rattle.oncrpc_watch.specs.MessagesEnd.{status_of};
+
 use crate::flows::Flows;
 use crate::pairs::Pairs;
 use crate::printing::Printing;
@@ -73,7 +76,15 @@ impl<'a> Desk<'a> {
     {
         self.read(source, output)?;
         self.printing.close(output)?;
-        let counts = self.printing.watch.counts();
-        Ok(if counts.refused == 0 { 0 } else { 1 })
+        let status = status_of(self.printing.refused());
+        Ok(status)
     }
+}
+
+// The status: whether anything was refused.
+fn status_of(refused: u64) -> u8
+    ensures few { result ≤ 1 }
+    ensures status { result ≡ status_of refused }
+{
+    if refused == 0 { 0 } else { 1 }
 }

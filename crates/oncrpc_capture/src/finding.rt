@@ -87,7 +87,10 @@ pub fn begins_call(bytes: &[u8]) -> bool
     let Some((version, _rest)) = first_word(rest) else {
         return false;
     };
-    kind == 0 && version == 2
+    if kind != 0 {
+        return false;
+    }
+    version == 2
 }
 
 /// Whether bytes say that they are a reply.

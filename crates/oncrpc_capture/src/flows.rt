@@ -1,6 +1,8 @@
 //! Connections over TCP.
+use crate::finding::is_reply;
 use crate::pairs::{Pair, Pairs};
 use crate::side::Side;
+use crate::step::Step;
 use capture_packets::Segment;
 use std::alloc::{AllocError, Global};
 
@@ -34,11 +36,18 @@ impl Flow {
         if up { &mut self.up } else { &mut self.down }
     }
 
-    /// A message of one of the two nodes was read: so it is RPC, and by the first one it is known who calls.
-    pub fn note_message(&mut self, up: bool, is_reply: bool) {
+    // A message of one of the two nodes was read: so it is RPC, and by the first one it is known who calls.
+    fn note_message(&mut self, up: bool, is_reply: bool) {
         self.known = true;
         if self.lower_calls.is_none() {
             self.lower_calls = Some(up != is_reply);
+        }
+    }
+
+    /// Notes what came of one of the two nodes, where that is a message.
+    pub fn note_step(&mut self, up: bool, step: Step, record: &[u8]) {
+        if step == Step::Record {
+            self.note_message(up, is_reply(record));
         }
     }
 
@@ -87,6 +96,15 @@ impl Flows {
     /// The connection at a place, where one is.
     pub fn flow(&mut self, place: usize) -> Option<&mut Flow> {
         self.flows.get_mut(place)
+    }
+
+    /// Begins a direction of the connection at a place with a segment, where none has begun, and notes the segment, by
+    /// the number and the time of its packet.
+    pub fn note(&mut self, place: usize, up: bool, segment: Segment<'_>, packet: (u64, u64)) {
+        if let Some(flow) = self.flows.get_mut(place) {
+            flow.side(up).begin(segment);
+            flow.side(up).note(segment, packet);
+        }
     }
 
     /// The number and the time of the last packet of a direction of the connection at a place.

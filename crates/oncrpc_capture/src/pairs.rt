@@ -52,6 +52,8 @@ pub struct Pairs {
 }
 
 impl Pairs {
+    ghost use Rattle.std.specs.Prelude.{◌≡◌, false, IfOk, MatchOption, ⊤};
+
     /// No pair.
     pub fn new(alloc: Global) -> Pairs {
         Pairs {
@@ -87,6 +89,21 @@ impl Pairs {
             }
         }
         oldest
+    }
+
+    /// The place of a pair, which is followed from now on where it is wanted.
+    pub fn place_for(&mut self, pair: Pair, wanted: bool) -> Result<Option<usize>, AllocError>
+        ensures { IfOk result (λ place. MatchOption place (wanted ≡ false) (λ _. ⊤)) }
+    {
+        let known = self.place_of(&pair);
+        if let Some(place) = known {
+            return Ok(Some(place));
+        }
+        if !wanted {
+            return Ok(None);
+        }
+        let place = self.follow(pair)?;
+        Ok(Some(place))
     }
 
     /// Follows a new pair, and says its place: behind the others, or where there are too many that of the one that was

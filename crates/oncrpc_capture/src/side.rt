@@ -107,8 +107,8 @@ impl Side {
     }
 
     /// Notes a segment: the number and the time of its packet, and where its bytes end.
-    pub fn note(&mut self, segment: Segment<'_>, frame: u64, time: u64) {
-        self.last = (frame, time);
+    pub fn note(&mut self, segment: Segment<'_>, packet: (u64, u64)) {
+        self.last = packet;
         if segment.flags.reset || self.is_whole {
             return;
         }
@@ -189,14 +189,14 @@ impl Side {
         }
     }
 
-    /// How many bytes are missing at its end, as far as is known where that is.
-    pub fn missing_at_end(&self) -> u64 {
+    /// What is to be said of bytes that are missing at its end, as far as is known where that is.
+    pub fn missing_at_end(&self) -> Option<(Told, u64)> {
         let Some(direction) = &self.direction else {
-            return 0;
+            return None;
         };
         match direction.end(self.end) {
-            Ending::Cut { missing } => missing as u64,
-            Ending::Whole | Ending::Past { .. } => 0,
+            Ending::Cut { missing: 0 } | Ending::Whole | Ending::Past { .. } => None,
+            Ending::Cut { missing } => Some((Told::Missing, missing as u64)),
         }
     }
 

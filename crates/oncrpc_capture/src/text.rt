@@ -1,11 +1,15 @@
 //! The lines of a capture.
 ghost use Rattle.std.specs.Prelude.{◌≡◌, IfOk, string_bytes};
 ghost use Rattle.oncrpc_watch.specs.Events.{stream_line};
-ghost use Rattle.oncrpc_capture.specs.Texts.{behind, front_text, note_text, thousand_text, time_text, unread_text};
+ghost use Rattle.oncrpc_capture.specs.Entries.{place_of};
+ghost use Rattle.oncrpc_capture.specs.Texts.{behind, front_of, front_text, note_text, thousand_text, time_text};
+ghost use Rattle.oncrpc_capture.specs.Texts.{unread_of, unread_text};
+ghost use Rattle.std.specs.Net.Text.{socket_text};
 
 use crate::seen::Seen;
-use oncrpc_messages::Form;
+use oncrpc_messages::{Form, Verdict};
 use std::alloc::{AllocError, Global};
+use std::net::SocketAddr;
 
 /// A text behind what tells its packet. Of JSON it begins with a brace, which is left out.
 pub fn joined(form: Form, front: Vec<u8>, text: &[u8]) -> Result<Vec<u8>, AllocError>
@@ -28,14 +32,39 @@ pub fn front_text(alloc: Global, form: Form, seen: Seen) -> Result<String, Alloc
     ensures { IfOk result (λ text. string_bytes text ≡ front_text form seen) }
 {
     let time = time_text(alloc, seen.time)?;
-    let frame = seen.frame;
-    let from = seen.from;
-    let to = seen.to;
+    let from = node_text(alloc, seen.from)?;
+    let to = node_text(alloc, seen.to)?;
+    let text = front_of(
+        alloc,
+        form,
+        seen.frame,
+        time.as_str(),
+        from.as_str(),
+        to.as_str(),
+    )?;
+    Ok(text)
+}
+
+fn node_text(alloc: Global, node: SocketAddr) -> Result<String, AllocError>
+    ensures { IfOk result (λ text. string_bytes text ≡ socket_text node) }
+{
+    format!(in alloc; "{node}")
+}
+
+fn front_of(
+    alloc: Global,
+    form: Form,
+    frame: u64,
+    time: &str,
+    from: &str,
+    to: &str,
+) -> Result<String, AllocError>
+    ensures { IfOk result (λ text. string_bytes text ≡ front_of form frame time.now from.now to.now) }
+{
     match form {
-        Form::Lines => format!(in alloc; "{frame} {} {from} > {to} ", time.as_str()),
+        Form::Lines => format!(in alloc; "{frame} {time} {from} > {to} "),
         Form::Json => format!(in alloc;
-            "{{\"packet\":{frame},\"time\":\"{}\",\"from\":\"{from}\",\"to\":\"{to}\",",
-            time.as_str()
+            "{{\"packet\":{frame},\"time\":\"{time}\",\"from\":\"{from}\",\"to\":\"{to}\","
         ),
     }
 }
@@ -61,11 +90,23 @@ pub fn unread_text(
     ensures { IfOk result (λ text. string_bytes text ≡ unread_text form frame time why.now) }
 {
     let time = time_text(alloc, time)?;
+    let text = unread_of(alloc, form, frame, time.as_str(), why)?;
+    Ok(text)
+}
+
+fn unread_of(
+    alloc: Global,
+    form: Form,
+    frame: u64,
+    time: &str,
+    why: &str,
+) -> Result<String, AllocError>
+    ensures { IfOk result (λ text. string_bytes text ≡ unread_of form frame time.now why.now) }
+{
     match form {
-        Form::Lines => format!(in alloc; "{frame} {} unread {why}\n", time.as_str()),
+        Form::Lines => format!(in alloc; "{frame} {time} unread {why}\n"),
         Form::Json => format!(in alloc;
-            "{{\"packet\":{frame},\"time\":\"{}\",\"type\":\"unread\",\"why\":\"{why}\"}}\n",
-            time.as_str()
+            "{{\"packet\":{frame},\"time\":\"{time}\",\"type\":\"unread\",\"why\":\"{why}\"}}\n"
         ),
     }
 }
@@ -89,6 +130,7 @@ pub fn refused_text(
 }
 
 // Seconds, and nine digits of a second.
+#[tactic(auto, unfolding(crate::specs::Texts::time_text))]
 fn time_text(alloc: Global, time: u64) -> Result<String, AllocError>
     ensures { IfOk result (λ text. string_bytes text ≡ time_text time) }
 {
@@ -112,4 +154,14 @@ fn thousand_text(alloc: Global, number: u64) -> Result<String, AllocError>
     let tens = number / 10 % 10;
     let ones = number % 10;
     format!(in alloc; "{hundreds}{tens}{ones}")
+}
+
+/// The place of a refusal is that in the message.
+pub fn place_of(verdict: Verdict) -> u64
+    ensures { result ≡ place_of verdict }
+{
+    match verdict {
+        Verdict::Refused(refusal) => refusal.at as u64,
+        Verdict::Canonical | Verdict::Unjudged => 0,
+    }
 }

@@ -1,12 +1,13 @@
 -- What was printed of a capture so far.
-use Rattle.std.specs.Prelude.{◌≡◌, ℕ, Bool, true, false, List, [], ◌∷◌, ◌++◌, length, codes, is_some}
+use Rattle.std.specs.Prelude.{◌≡◌, ◌⊎◌, ℕ, ◌+◌, Bool, true, false, List, [], ◌∷◌, ◌++◌, length, codes, is_some}
 use Rattle.std.specs.Prelude.{Option, None, Some}
-use Rattle.std.specs.Io.KnownBytes.{Appends, Keeps}
+use Rattle.std.specs.Io.KnownBytes.{Appends, Consumes, IsAtEnd, Keeps}
 use Rattle.capture_files.specs.declared.reader.CaptureReader.{CaptureReader}
 use Rattle.capture_files.specs.declared.reason.CaptureReason.{CaptureReason}
 use Rattle.capture_files.specs.declared.reason.CaptureReason.TheVariants.{Truncated}
-use Rattle.capture_files.specs.Represents.{Represents}
+use Rattle.capture_files.specs.Represents.{Represents, waiting}
 use Rattle.capture_files.specs.Runs.{PacketView, capped}
+use Rattle.capture_packets.specs.Packet.{DatagramView}
 use Rattle.xdr_lang.specs.Declarations.{Declared}
 use Rattle.oncrpc_messages.specs.Heads.{AreHeads, heads_of}
 use Rattle.oncrpc_messages.specs.declared.heads.Heads as code
@@ -17,7 +18,7 @@ use Rattle.oncrpc_watch.specs.Run.{State}
 use Rattle.oncrpc_watch.specs.Terms.{terms_of}
 use Rattle.oncrpc_capture.specs.declared.printing.Printing.{Printing}
 use Rattle.oncrpc_capture.specs.declared.task.CaptureTask.{CaptureTask}
-use Rattle.oncrpc_capture.specs.Brought.{BringAll, of_ending}
+use Rattle.oncrpc_capture.specs.Brought.{BringAll, Brings, IsTold, SaysSome, of_ending}
 use Rattle.oncrpc_capture.specs.CaptureEnd.{PrintsPackets}
 use Rattle.oncrpc_capture.specs.Entries.{Entry, FileRefused, TellsEntries}
 use Rattle.oncrpc_capture.specs.Files.{CeasesAt, FileEnding, IsReadFile, reason_name}
@@ -50,6 +51,12 @@ pub record PrintsOf (are : List Entry → Type 0) (p new : Printing) (taken take
   pub those : are entries
   pub prints : Prints p new entries taken taken'
 
+-- what comes of a datagram: it is told, a message by itself or what says that it is a reply, or nothing of what is no
+-- message by itself
+abbrev pub MayTell : (is_message : Bool) → (frame : ℕ) → DatagramView → List Entry → Type 0
+MayTell is_message frame d entries = ((entries ≡ []) × (is_message ≡ false))
+    ⊎ (IsTold frame d entries × ((is_message ≡ true) ⊎ SaysSome d.content))
+
 -- ---- the packets of a file
 
 -- The reader has taken these bytes, and all that their packets bring was printed since. This is the number of the last.
@@ -72,6 +79,14 @@ pub record IsBrokenOff (bytes ports : List ℕ) (p new : Printing) (taken taken'
   pub more : why ≡ Truncated → ⊥
   pub brings : BringAll ports 1 packets entries
   pub prints : Prints p new (entries ++ FileRefused (reason_name why) at ∷ []) taken taken'
+
+-- The packet that waits is the next, and all that it brings was printed.
+pub record PrintsNext (reader : CaptureReader) (ports : List ℕ) (frame frame' : ℕ) (p new : Printing)
+    (taken taken' : Option (List ℕ)) : Type 0 where
+  pub packet : PacketView
+  pub waits : Some packet ≡ waiting reader
+  pub next : frame' ≡ capped (frame + 1)
+  pub prints : PrintsOf (λ es. Brings ports frame' packet es) p new taken taken'
 
 -- what is known of the bytes behind a piece: they go on, or cease to be a capture
 abbrev pub IsFed : (more : Bool) → CaptureReader → (bytes ports : List ℕ) → (frame : ℕ) → (p new : Printing)
@@ -97,7 +112,21 @@ pub record HasRead (p new : Printing) (ports : List ℕ) (left taken taken' : Op
   pub brings : BringAll ports 1 packets brought
   pub prints : Prints p new (brought ++ (of_ending ending ++ last)) taken taken'
 
+-- The file ended behind the bytes that the reader has taken, and that was printed, whatever was printed of them.
+abbrev pub EndsFile : (p new : Printing) → (ports : List ℕ) → (frame : ℕ) → CaptureReader
+    → (taken taken' : Option (List ℕ)) → Type 0
+EndsFile p new ports frame reader taken taken' =
+    (first : Printing) (begun left rest : Option (List ℕ)) (bytes : List ℕ)
+    → IsThrough reader bytes ports frame first p begun taken → Consumes left rest bytes → IsAtEnd rest
+    → HasRead first new ports left begun taken'
+
 -- ---- the whole
+
+-- Some tables were written, where they are asked for, and none elsewhere.
+pub record PutsTables (stats : Bool) (taken taken' : Option (List ℕ)) : Type 0 where
+  pub tables : List ℕ
+  pub none : stats ≡ false → tables ≡ []
+  pub written : Appends taken taken' tables
 
 -- The counts were written, behind whatever tables where there are some.
 pub record Closes (p : Printing) (taken taken' : Option (List ℕ)) : Type 0 where

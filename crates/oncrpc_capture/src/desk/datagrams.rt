@@ -3,17 +3,16 @@ use super::Desk;
 use crate::finding::{begins_call, is_reply};
 use crate::pairs::pair_of;
 use crate::seen::{Seen, node_of};
-use crate::told::Told;
 use capture_packets::{Datagram, Endpoint};
 use oncrpc_answers::Failure;
 use xdr_io::Sink;
 
 impl<'a> Desk<'a> {
-    ghost use Rattle.std.specs.Prelude.{◌≡◌, OnOk};
+    ghost use Rattle.std.specs.Prelude.{◌≡◌, ◌↔◌, IsTrue, OnOk};
     ghost use Rattle.capture_packets.specs.View.{datagram_view, endpoint_view};
-    ghost use Rattle.oncrpc_capture.specs.Brought.{BringsDatagram, is_wanted};
+    ghost use Rattle.oncrpc_capture.specs.Brought.{BringsDatagram, IsMessage, is_wanted};
     ghost use Rattle.oncrpc_capture.specs.Nodes.{IsSeen};
-    ghost use Rattle.oncrpc_capture.specs.Private.Steps.{PrintsOf};
+    ghost use Rattle.oncrpc_capture.specs.Private.Steps.{MayTell, PrintsOf};
 
     // Whether traffic between these ports is RPC, or may be.
     pub(super) fn is_wanted(&self, from: u16, to: u16) -> bool
@@ -43,7 +42,7 @@ impl<'a> Desk<'a> {
         output: &mut O,
     ) -> Result<(), Failure>
         ensures brings { OnOk result (PrintsOf
-            (BringsDatagram self.old.ports.now self.old.frame (datagram_view datagram.entry))
+            (λ es. BringsDatagram self.old.ports.now self.old.frame (datagram_view datagram.entry) es)
             self.old.printing self.new.printing (O.taken output.old) (O.taken output.new)) }
         ensures same { (self.new.ports ≡ self.old.ports) × (self.new.frame ≡ self.old.frame) }
     {
@@ -51,23 +50,49 @@ impl<'a> Desk<'a> {
             return Ok(());
         }
         let seen = self.seen(time, datagram.from, datagram.to);
+        let is_message = self.is_message(datagram);
         let (pair, _up) = pair_of(seen);
-        let is_message = !self.ports.is_empty() || begins_call(datagram.bytes);
-        let place = match self.talks.place_of(&pair) {
-            Some(place) => place,
-            None if is_message => self.talks.follow(pair)?,
-            None => return Ok(()),
-        };
+        let found = self.talks.place_for(pair, is_message)?;
+        match found {
+            Some(place) => self.datagram_at(place, is_message, seen, datagram, output),
+            None => Ok(()),
+        }
+    }
+
+    // A datagram between the nodes at a place: a message by itself, or a reply whose call is known.
+    fn datagram_at<O: Sink>(
+        &mut self,
+        place: usize,
+        is_message: bool,
+        seen: Seen,
+        datagram: Datagram<'_>,
+        output: &mut O,
+    ) -> Result<(), Failure>
+        requires { IsSeen self.old.frame (endpoint_view datagram.from) (endpoint_view datagram.to) seen }
+        ensures tells { OnOk result (PrintsOf
+            (λ es. MayTell is_message self.old.frame (datagram_view datagram.entry) es)
+            self.old.printing self.new.printing (O.taken output.old) (O.taken output.new)) }
+        ensures same { (self.new.ports ≡ self.old.ports) × (self.new.frame ≡ self.old.frame) }
+    {
         self.talks.note(place, self.frame);
         let way = way_of(self.talks.number(place), false, seen, datagram.bytes);
-        if !is_message && !self.printing.watch.is_asked(way, datagram.bytes) {
+        let is_told = self.printing.is_told(is_message, way, datagram.bytes);
+        if !is_told {
             return Ok(());
         }
-        if datagram.missing != 0 {
-            let missing = datagram.missing as u64;
-            return self.printing.note(seen, Told::Missing, missing, output);
+        self.printing
+            .datagram(way, seen, datagram.bytes, datagram.missing, output)
+    }
+
+    // Whether a datagram is a message by itself.
+    fn is_message(&self, datagram: Datagram<'_>) -> bool
+        ensures { IsTrue result ↔ IsMessage self.now.ports.now (datagram_view datagram.entry) }
+    {
+        if self.ports.is_empty() {
+            begins_call(datagram.bytes)
+        } else {
+            true
         }
-        self.printing.record(way, seen, datagram.bytes, output)
     }
 }
 

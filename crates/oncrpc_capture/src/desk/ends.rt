@@ -2,7 +2,6 @@
 use super::Desk;
 use crate::pairs::Pair;
 use crate::seen::Seen;
-use crate::told::Told;
 use oncrpc_answers::Failure;
 use xdr_io::Sink;
 
@@ -110,12 +109,7 @@ impl<'a> Desk<'a> {
         if !known {
             return Ok(());
         }
-        if let Some((told, count)) = left {
-            self.printing.note(seen, told, count, output)?;
-        }
-        if missing != 0 {
-            self.printing.note(seen, Told::Missing, missing, output)?;
-        }
-        Ok(())
+        self.printing.note_some(seen, left, output)?;
+        self.printing.note_some(seen, missing, output)
     }
 }

@@ -1,7 +1,6 @@
 //! Segments, and the messages that they bring to an end.
 use super::Desk;
 use super::datagrams::way_of;
-use crate::finding::is_reply;
 use crate::pairs::{Pair, pair_of};
 use crate::seen::Seen;
 use crate::sequence::first_of;
@@ -27,7 +26,7 @@ impl<'a> Desk<'a> {
         segment: Segment<'_>,
         output: &mut O,
     ) -> Result<(), Failure>
-        ensures brings { OnOk result (PrintsOf (BringsSegment self.old.ports.now (segment_view segment.entry))
+        ensures brings { OnOk result (PrintsOf (λ es. BringsSegment self.old.ports.now (segment_view segment.entry) es)
             self.old.printing self.new.printing (O.taken output.old) (O.taken output.new)) }
         ensures same { (self.new.ports ≡ self.old.ports) × (self.new.frame ≡ self.old.frame) }
     {
@@ -43,8 +42,7 @@ impl<'a> Desk<'a> {
         self.hold(place, up, seen, output)
     }
 
-    // The place of the connection between two nodes. Where it is new and there are too many, the one that was not seen
-    // for the longest time ends.
+    // The place of the connection between two nodes, which may be new.
     fn flow_of<O: Sink>(&mut self, pair: Pair, output: &mut O) -> Result<usize, Failure>
         ensures some { OnOk result (PrintsSome self.old.printing self.new.printing (O.taken output.old)
             (O.taken output.new)) }
@@ -53,13 +51,23 @@ impl<'a> Desk<'a> {
         if let Some(place) = self.flows.pairs.place_of(&pair) {
             return Ok(place);
         }
-        if self.flows.pairs.is_full() {
-            let oldest = self.flows.pairs.oldest();
-            self.end_flow(oldest, output)?;
-        }
+        self.make_place(output)?;
         let known = !self.ports.is_empty();
         let place = self.flows.follow(pair, known)?;
         Ok(place)
+    }
+
+    // Where there are too many connections, the one that was not seen for the longest time ends.
+    fn make_place<O: Sink>(&mut self, output: &mut O) -> Result<(), Failure>
+        ensures some { OnOk result (PrintsSome self.old.printing self.new.printing (O.taken output.old)
+            (O.taken output.new)) }
+        ensures same { (self.new.ports ≡ self.old.ports) × (self.new.frame ≡ self.old.frame) }
+    {
+        if !self.flows.pairs.is_full() {
+            return Ok(());
+        }
+        let oldest = self.flows.pairs.oldest();
+        self.end_flow(oldest, output)
     }
 
     // Begins a direction with a segment, where none has begun. Where the segment is of another connection between the
@@ -76,15 +84,27 @@ impl<'a> Desk<'a> {
             (O.taken output.new)) }
         ensures same { (self.new.ports ≡ self.old.ports) × (self.new.frame ≡ self.old.frame) }
     {
-        if self.flows.is_other(place, up, segment) {
-            self.end_side(place, up, output)?;
-        }
-        let frame = self.frame;
-        if let Some(flow) = self.flows.flow(place) {
-            flow.side(up).begin(segment);
-            flow.side(up).note(segment, frame, time);
-        }
+        self.end_other(place, up, segment, output)?;
+        self.flows.note(place, up, segment, (self.frame, time));
         Ok(())
+    }
+
+    // Where a segment is of another connection between the same nodes, the direction ends.
+    fn end_other<O: Sink>(
+        &mut self,
+        place: usize,
+        up: bool,
+        segment: Segment<'_>,
+        output: &mut O,
+    ) -> Result<(), Failure>
+        ensures some { OnOk result (PrintsSome self.old.printing self.new.printing (O.taken output.old)
+            (O.taken output.new)) }
+        ensures same { (self.new.ports ≡ self.old.ports) × (self.new.frame ≡ self.old.frame) }
+    {
+        if !self.flows.is_other(place, up, segment) {
+            return Ok(());
+        }
+        self.end_side(place, up, output)
     }
 
     // Takes the bytes of a segment. Where too many are held behind a hole, goes on behind it.
@@ -161,21 +181,49 @@ impl<'a> Desk<'a> {
             };
             let known = flow.known;
             let step = flow.side(up).next(known, &mut self.record)?;
-            if step == Step::Record {
-                flow.note_message(up, is_reply(&self.record));
+            if step == Step::Waits {
+                return Ok(());
             }
-            match step {
-                Step::Waits => return Ok(()),
-                Step::Record => {
-                    let way = way_of(number, true, seen, &self.record);
-                    self.printing.record(way, seen, &self.record, output)?;
-                }
-                Step::Tells(told, count) if known => self.printing.note(seen, told, count, output)?,
-                Step::TooLong if known => self.printing.too_long(seen, output)?,
-                Step::Tells(_, _) | Step::TooLong => {}
-            }
+            flow.note_step(up, step, &self.record);
+            self.print_step(step, known, number, seen, output)?;
         }
         Ok(())
+    }
+
+    // Prints what came of a direction of the connection of this number, where that is known to be RPC or not.
+    fn print_step<O: Sink>(
+        &mut self,
+        step: Step,
+        known: bool,
+        number: u32,
+        seen: Seen,
+        output: &mut O,
+    ) -> Result<(), Failure>
+        ensures some { OnOk result (PrintsSome self.old.printing self.new.printing (O.taken output.old)
+            (O.taken output.new)) }
+        ensures same { (self.new.ports ≡ self.old.ports) × (self.new.frame ≡ self.old.frame) }
+    {
+        match step {
+            Step::Record => {
+                let way = way_of(number, true, seen, &self.record);
+                self.printing.record(way, seen, &self.record, output)
+            }
+            Step::Tells(told, count) => {
+                if known {
+                    self.printing.note(seen, told, count, output)
+                } else {
+                    Ok(())
+                }
+            }
+            Step::TooLong => {
+                if known {
+                    self.printing.too_long(seen, output)
+                } else {
+                    Ok(())
+                }
+            }
+            Step::Waits => Ok(()),
+        }
     }
 
     // Counts what a connection holds. Where all hold too much, the direction at work lets its own go.

@@ -1,15 +1,11 @@
-use Rattle.std.proofs.Common.{◌≡◌, ℕ, List, ◌++◌, Option}
-use Rattle.oncrpc_capture.specs.declared.printing.Printing.{Printing}
-use Rattle.oncrpc_capture.specs.Private.Steps.{IsThrough}
+use Rattle.std.proofs.Common.{◌≡◌, ℕ, true, List, ◌++◌}
+use Rattle.oncrpc_capture.specs.Private.Steps.{Feeds}
 use Rattle.oncrpc_capture.proofs.desk.Desk.feed.Given as goal
 
 abbrev pub invariant-packets : goal.invariant-packets
 invariant-packets g l = record {
-  through : (done : List ℕ) × (l.fn.piece.now ≡ done ++ l.rest.now)
-      × ((first : Printing) (begun : Option (List ℕ)) (bytes : List ℕ)
-      → IsThrough l.fn.reader bytes l.fn.self.ports.now l.fn.self.frame first l.fn.self.printing begun
-      (g.O.Sink.taken l.fn.output)
-      → IsThrough l.reader (bytes ++ done) l.fn.self.ports.now l.self.frame first l.self.printing begun
-      (g.O.Sink.taken l.output));
+  through : (done : List ℕ) × (l.fn.piece ≡ done ++ l.rest)
+      × Feeds true l.fn.self.printing l.self.printing l.fn.self.ports.now l.fn.self.frame l.self.frame l.fn.reader
+      l.reader done (g.O.Sink.taken l.fn.output) (g.O.Sink.taken l.output);
   ports : l.self.ports ≡ l.fn.self.ports;
 }

@@ -1,0 +1,9 @@
+use Rattle.oncrpc_capture.proofs.Fed.{next_is}
+use Rattle.oncrpc_capture.proofs.Printed.{on_ok}
+use Rattle.oncrpc_capture.proofs.desk.Desk.next_packet.Goals as goal
+
+pub returns-in-Some-clause-prints : goal.returns-in-Some-clause-prints
+returns-in-Some-clause-prints g c = on_ok _
+    (λ h. next_is c.args.reader.now c.args.self.now.ports.now c.args.self.now.frame _ c.args.self.now.printing _ _ _ _
+    c.in-Some.ensures.packet c.saturating_add.ensures h)
+    c.packet-in-Some.ensures.brings
