@@ -1,6 +1,6 @@
 -- Where bytes begin as a call does.
-use Rattle.std.proofs.Common.{◌≡◌, ℕ, ◌^◌, ◌<◌, eqb, false, List, ◌++◌, ap, ◌∙◌, arith}
-use Rattle.std.proofs.lemmas.Bool.{eq-eqb, eqb-true, false≢true}
+use Rattle.std.proofs.Common.{◌≡◌, ℕ, ◌^◌, ◌<◌, eqb, List, ◌++◌, ap, ◌∙◌, arith}
+use Rattle.std.proofs.lemmas.Bool.{eq-eqb, eqb-true}
 use Rattle.std.specs.Prelude.{◌↔◌, IsTrue}
 use Rattle.xdr_units.specs.Numbers.{word}
 use Rattle.oncrpc_capture.specs.Brought.{BeginsCall}
@@ -9,32 +9,13 @@ use Rattle.oncrpc_capture.specs.Brought.{BeginsCall}
 abbrev pub Begins : (bytes : List ℕ) (n : ℕ) (rest : List ℕ) → Type 0
 Begins bytes n rest = (m : ℕ) (more : List ℕ) → m < 2 ^ 32 → bytes ≡ word m ++ more → (n ≡ m) × (rest ≡ more)
 
--- none is there
-abbrev pub BeginsNone : (bytes : List ℕ) → Type 0
-BeginsNone bytes = (m : ℕ) (more : List ℕ) → m < 2 ^ 32 → bytes ≡ word m ++ more → ⊥
-
-never : (bytes : List ℕ) → (BeginsCall bytes → ⊥) → IsTrue false ↔ BeginsCall bytes
-never bytes not_one = (λ e. absurd (false≢true e), λ b. absurd (not_one b))
-
-pub no_xid : (bytes : List ℕ) → BeginsNone bytes → IsTrue false ↔ BeginsCall bytes
-no_xid bytes none = never bytes (λ b. none b.xid (word 0 ++ (word 2 ++ b.rest)) b.counted b.spelled)
-
 module _ (bytes : List ℕ) (xid : ℕ) (rest : List ℕ) (one : Begins bytes xid rest) where
   behind_xid : (b : BeginsCall bytes) → rest ≡ word 0 ++ (word 2 ++ b.rest)
   behind_xid b = (one b.xid (word 0 ++ (word 2 ++ b.rest)) b.counted b.spelled).1
 
-  pub no_kind : BeginsNone rest → IsTrue false ↔ BeginsCall bytes
-  no_kind none = never bytes (λ b. none 0 (word 2 ++ b.rest) (omega arith) (behind_xid b))
-
   module _ (kind : ℕ) (later : List ℕ) (two : Begins rest kind later) where
     is_kind : (b : BeginsCall bytes) → (kind ≡ 0) × (later ≡ word 2 ++ b.rest)
     is_kind b = two 0 (word 2 ++ b.rest) (omega arith) (behind_xid b)
-
-    pub other_kind : (kind ≡ 0 → ⊥) → IsTrue false ↔ BeginsCall bytes
-    other_kind not_one = never bytes (λ b. not_one (is_kind b).0)
-
-    pub no_version : BeginsNone later → IsTrue false ↔ BeginsCall bytes
-    no_version none = never bytes (λ b. none 2 b.rest (omega arith) (is_kind b).1)
 
     module _ (version : ℕ) (last : List ℕ) (three : Begins later version last) where
       call_of : xid < 2 ^ 32 → bytes ≡ word xid ++ rest → rest ≡ word kind ++ later → later ≡ word version ++ last

@@ -11,9 +11,9 @@ use Rattle.oncrpc_capture.specs.declared.seen.Seen.{Seen}
 use Rattle.oncrpc_capture.specs.declared.told.Told.TheVariants.{Missing}
 use Rattle.oncrpc_capture.specs.Brought.{BringsBy, BringsDatagram, BringsOther, BringsSegment, IsMessage, IsTold}
 use Rattle.oncrpc_capture.specs.Brought.{IsToldBy, SaysSome, is_wanted}
-use Rattle.oncrpc_capture.specs.Entries.{Entry, Message, Note, Unread}
+use Rattle.oncrpc_capture.specs.Entries.{Entry, Message, Note}
 use Rattle.oncrpc_capture.specs.Nodes.{IsSeen}
-use Rattle.oncrpc_capture.specs.Notes.{is_unread, told_name, why_unread}
+use Rattle.oncrpc_capture.specs.Notes.{is_unread, told_name}
 use Rattle.oncrpc_capture.specs.Private.Steps.{MayTell, Prints, PrintsOf, PrintsSome}
 use Rattle.oncrpc_capture.proofs.Printed.{of_some, prints_none}
 
@@ -97,15 +97,6 @@ pub segment_some : (ports : List ℕ) (s : SegmentView) (p q : Printing) (a b : 
     → PrintsOf (λ es. BringsSegment ports s es) p q a b
 segment_some ports s p q a b w h = of_some (λ es. BringsSegment ports s es) p q a b
     (λ es e. absurd (both (is_wanted ports s.from.port s.to.port) w e)) h
-
-pub other_told : (frame time : ℕ) (why : Reason) (p q : Printing) (a b : Option (List ℕ)) → is_unread why ≡ true
-    → Prints p q (Unread frame time (why_unread why) ∷ []) a b
-    → PrintsOf (λ es. BringsOther (is_unread why) frame why es) p q a b
-other_told frame time why p q a b e h = record {
-  entries = Unread frame time (why_unread why) ∷ [];
-  those = subst (λ (x : Bool). BringsOther x frame why (Unread frame time (why_unread why) ∷ [])) (sym e) (time, refl);
-  prints = h;
-}
 
 pub other_untold : (frame : ℕ) (why : Reason) (p : Printing) (a : Option (List ℕ)) → is_unread why ≡ false
     → PrintsOf (λ es. BringsOther (is_unread why) frame why es) p p a a

@@ -1,7 +1,7 @@
 -- What taking pieces of a file does, one after another.
 use Rattle.std.proofs.Common.{◌≡◌, ℕ, ◌+◌, ◌-◌, ◌^◌, min, true, false, List, [], ◌∷◌, ◌++◌, length, take, drop}
 use Rattle.std.proofs.Common.{Option, Some, Ok}
-use Rattle.std.proofs.Common.{Bool, refl, sym, ap, ◌∙◌, subst, arith, append_assoc}
+use Rattle.std.proofs.Common.{Bool, refl, sym, ap, ◌∙◌, subst, arith, append_assoc, length-drop}
 use Rattle.std.proofs.lemmas.List.{append-nil, take-append-drop, take_all}
 use Rattle.std.specs.Io.KnownBytes.{Consumes, IsAtEnd}
 use Rattle.xdr_io.proofs.Chained.{Consumes-trans}
@@ -39,11 +39,16 @@ module _ (s new : CaptureReader) (rest : List ℕ) (step : CaptureStep) where
   pub reports_more : step ≡ More → Reports (Ok step) new.progress → new.progress ≡ Gathering
   reports_more e h = subst (λ (x : CaptureStep). Reports (Ok x) new.progress) e h
 
-pub next_is : (reader : CaptureReader) (ports : List ℕ) (frame frame' : ℕ) (p new : Printing) (a b : Option (List ℕ))
-    (v : PacketView) → Some v ≡ waiting reader → frame' ≡ min (frame + 1) (2 ^ 64 - 1)
-    → PrintsOf (λ es. Brings ports frame' v es) p new a b → PrintsNext reader ports frame frame' p new a b
-next_is reader ports frame frame' p new a b v waits next prints =
-    record { packet = v; waits = waits; next = next; prints = prints }
+pub next_is : (reader : CaptureReader) (ports : List ℕ) (frame frame' mid : ℕ) (p new : Printing)
+    (a b : Option (List ℕ)) (v : PacketView) → Some v ≡ waiting reader → frame' ≡ mid
+    → mid ≡ min (frame + 1) (2 ^ 64 - 1) → PrintsOf (λ es. Brings ports mid v es) p new a b
+    → PrintsNext reader ports frame frame' p new a b
+next_is reader ports frame frame' mid p new a b v waits same next prints = record {
+  packet = v;
+  waits = waits;
+  next = same ∙ next;
+  prints = subst (λ (n : ℕ). PrintsOf (λ es. Brings ports n v es) p new a b) (sym same) prints;
+}
 
 -- ---- a piece
 
@@ -61,10 +66,13 @@ rest_is bytes done rest piece is =
     ∙ ap (λ (x : List ℕ). bytes ++ x) (sym is)
 
 pub parts_of : (piece done rest : List ℕ) (used : ℕ) → piece ≡ done ++ rest
-    → piece ≡ (done ++ take used rest) ++ drop used rest
+    → piece ≡ (done ++ take used rest) ++ take (length rest - used) (drop used rest)
 parts_of piece done rest used is =
+    let all : take (length rest - used) (drop used rest) ≡ drop used rest =
+    take_all (length rest - used) (drop used rest) (omega (arith, length-drop used rest)) in
     is ∙ ap (λ (x : List ℕ). done ++ x) (sym (take-append-drop used rest))
     ∙ sym (append_assoc done (take used rest) (drop used rest))
+    ∙ ap (λ (x : List ℕ). (done ++ take used rest) ++ x) (sym all)
 
 module _ (p q : Printing) (ports : List ℕ) (f g : ℕ) (r s new : CaptureReader) (done rest : List ℕ)
     (a b : Option (List ℕ)) (h : Feeds true p q ports f g r s done a b) where

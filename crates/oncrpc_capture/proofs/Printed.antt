@@ -77,9 +77,6 @@ prints_join p q r xs ys a b c x y = record {
 pub some_none : (p : Printing) (t : Option (List ℕ)) → PrintsSome p p t t
 some_none p t = record { entries = []; prints = prints_none p t }
 
-pub some_one : (p q : Printing) (e : Entry) (a b : Option (List ℕ)) → Prints p q (e ∷ []) a b → PrintsSome p q a b
-some_one p q e a b h = record { entries = e ∷ []; prints = h }
-
 pub some_join : (p q r : Printing) (a b c : Option (List ℕ)) → PrintsSome p q a b → PrintsSome q r b c
     → PrintsSome p r a c
 some_join p q r a b c x y = record {

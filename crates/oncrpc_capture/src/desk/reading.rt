@@ -146,7 +146,8 @@ impl<'a> Desk<'a> {
 
     // A packet of the file, whose number is that of the packet at work.
     fn packet<O: Sink>(&mut self, packet: Captured<'_>, output: &mut O) -> Result<(), Failure>
-        ensures brings { OnOk result (PrintsOf (λ es. Brings self.old.ports.now self.old.frame (captured_view packet.entry) es)
+        ensures brings { OnOk result (PrintsOf
+            (λ es. Brings self.old.ports.now self.old.frame (captured_view packet.entry) es)
             self.old.printing self.new.printing (O.taken output.old) (O.taken output.new)) }
         ensures same { (self.new.ports ≡ self.old.ports) × (self.new.frame ≡ self.old.frame) }
     {

@@ -16,7 +16,7 @@ packets-preserved g c =
         parts_of c.args.piece.now inv.through.0 c.packets.rest.now arm.used inv.through.1,
         fed_packet _ _ _ _ _ _ _ c.feed.new.self _ _ _ _ inv.through.2
             _ _ _ arm.used _ (ap (λ k. k.now) inv.ports)
-            (takes_packet _ c.feed.new.self c.packets.rest.now arm.field-0 arm.used arm.field-0-is
+            (takes_packet c.packets.reader c.feed.new.self c.packets.rest.now arm.field-0 arm.used arm.field-0-is
             arm.ensures.takes) c.in_ok-next_packet-in-Ok-Packet.ensures.prints,
       );
       ports = c.next_packet.ensures.ports ∙ inv.ports;
@@ -28,8 +28,8 @@ returns-in-Ok-More-clause-feeds g c =
     let arm = c.in-Ok-More in
     fed_more _ _ _ _ _ _ _ c.feed.new.self _ _ _ _ inv.through.2
     _ inv.through.1
-    (takes_more _ c.feed.new.self c.packets.rest.now arm.field-0 arm.field-0-is arm.ensures.takes)
-    (reports_more c.feed.new.self c.feed.new.self c.packets.rest.now arm.field-0 arm.field-0-is arm.ensures.reports)
+    (takes_more c.packets.reader c.feed.new.self c.packets.rest.now arm.field-0 arm.field-0-is arm.ensures.takes)
+    (reports_more c.packets.reader c.feed.new.self c.packets.rest.now arm.field-0 arm.field-0-is arm.ensures.reports)
 
 pub returns-in-Err-clause-feeds : goal.returns-in-Err-clause-feeds
 returns-in-Err-clause-feeds g c =
