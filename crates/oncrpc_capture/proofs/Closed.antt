@@ -1,6 +1,6 @@
 -- A file was read and printed to its end.
-use Rattle.std.proofs.Common.{◌≡◌, ℕ, List, [], ◌∷◌, ◌++◌, Option, None, Some, refl, sym, ap, ◌∙◌, subst, append_assoc}
-use Rattle.std.specs.Prelude.{Bool, IfOk, Result, is_some, string_bytes, ⊤}
+use Rattle.std.proofs.Common.{◌≡◌, ℕ, List, [], ◌∷◌, ◌++◌, Option, None, Some, refl, subst, append_assoc}
+use Rattle.std.specs.Prelude.{Bool, IfOk, Result, is_some, string_bytes}
 use Rattle.oncrpc_answers.specs.declared.failure.Failure.{Failure}
 use Rattle.std.specs.Io.KnownBytes.{Consumes, IsAtEnd}
 use Rattle.capture_files.specs.declared.reason.CaptureReason.{CaptureReason}
@@ -18,8 +18,8 @@ use Rattle.oncrpc_capture.specs.declared.task.CaptureTask.{CaptureTask}
 use Rattle.oncrpc_capture.specs.Brought.{BringAll, of_ending}
 use Rattle.oncrpc_capture.specs.CaptureEnd.{PrintsCapture, PrintsNamed, PrintsPackets}
 use Rattle.oncrpc_capture.specs.Entries.{Entry, FileRefused}
-use Rattle.oncrpc_capture.specs.Files.{Ceases, CeasesAt, FileEnding, IsReadOut, Whole, reason_name}
-use Rattle.oncrpc_capture.specs.Private.Steps.{Closes, HasRead, IsBrokenOff, IsOpened, IsThrough, Prints, PrintsBy}
+use Rattle.oncrpc_capture.specs.Files.{Ceases, CeasesAt, IsReadOut, Whole, reason_name}
+use Rattle.oncrpc_capture.specs.Private.Steps.{Closes, HasRead, IsBrokenOff, IsOpened, Prints, PrintsBy}
 use Rattle.oncrpc_capture.specs.Private.Steps.{PrintsSome, given_of}
 use Rattle.oncrpc_capture.proofs.Printed.{prints_all, prints_join}
 

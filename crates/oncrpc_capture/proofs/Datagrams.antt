@@ -9,7 +9,7 @@ use Rattle.capture_packets.specs.Packet.{DatagramView, PacketView, SegmentView}
 use Rattle.oncrpc_capture.specs.declared.printing.Printing.{Printing}
 use Rattle.oncrpc_capture.specs.declared.seen.Seen.{Seen}
 use Rattle.oncrpc_capture.specs.declared.told.Told.TheVariants.{Missing}
-use Rattle.oncrpc_capture.specs.Brought.{BringsBy, BringsDatagram, BringsOther, BringsSegment, IsMessage, IsTold}
+use Rattle.oncrpc_capture.specs.Brought.{BringsBy, BringsDatagram, BringsOther, BringsSegment, IsMessage}
 use Rattle.oncrpc_capture.specs.Brought.{IsToldBy, SaysSome, is_wanted}
 use Rattle.oncrpc_capture.specs.Entries.{Entry, Message, Note}
 use Rattle.oncrpc_capture.specs.Nodes.{IsSeen}

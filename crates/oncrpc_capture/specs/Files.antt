@@ -1,6 +1,6 @@
 -- What the bytes of a file of captured packets are: its packets, and where it ceases to be a capture
 -- (draft-ietf-opsawg-pcap, draft-ietf-opsawg-pcapng).
-use Rattle.std.specs.Prelude.{◌≡◌, ℕ, List, Option, codes, ⊤}
+use Rattle.std.specs.Prelude.{ℕ, List, Option, codes, ⊤}
 use Rattle.std.specs.Io.KnownBytes.{Consumes, IsAtEnd}
 use Rattle.capture_files.specs.declared.place.Step.TheVariants.{Refused}
 use Rattle.capture_files.specs.declared.reason.CaptureReason.{CaptureReason}

@@ -1,6 +1,4 @@
-use Rattle.std.proofs.Common.{ap, subst, sym, ◌∙◌}
-use Rattle.oncrpc_watch.specs.Represents.{IsAt}
-use Rattle.oncrpc_watch.specs.Run.{nothing}
+use Rattle.std.proofs.Common.{ap, ◌∙◌}
 use Rattle.oncrpc_watch.specs.Terms.{terms_of}
 use Rattle.oncrpc_capture.proofs.Closed.{packets_same}
 use Rattle.oncrpc_capture.proofs.capture.print_of.Goals as goal
