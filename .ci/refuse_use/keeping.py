@@ -350,7 +350,7 @@ def unheard(program, heap):
             ("a port that is taken", {"port": first}, f"127.0.0.1 {first} over tcp: address in use"),
             ("one that is taken over UDP", {"port": second}, f"127.0.0.1 {second} over udp: address in use"),
             ("no descriptor for TCP", {"room": 4}, "127.0.0.1 0 over tcp: error 24"),
-            ("none for UDP", {"room": 5}, r"127.0.0.1 \d+ over udp: error 24"),
+            ("none for UDP", {"room": 5}, r"127.0.0.1 [1-9]\d* over udp: error 24"),
         ]
         if heap:
             rows.append(("no random bytes", {"LD_PRELOAD": heap, "REFUSE_RANDOM": "1"}, "random bytes: [a-z0-9 ]+"))
