@@ -30,7 +30,7 @@ target_text form program version procedure (Some name) =
 
 -- ---- a call
 
--- the name of a flavor (RFC 5531 section 8.2; RFC 2203 section 1), or its number
+-- the name of a flavor (RFC 5531 section 8.2; RFC 2203 section 3), or its number
 abbrev pub flavor_text : ℕ → List ℕ
 flavor_text flavor =
     if flavor == 0 then codes "AUTH_NONE" else if flavor == 1 then codes "AUTH_SYS" else
