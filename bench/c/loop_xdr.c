@@ -1,8 +1,9 @@
 /* The nearest to our codec_bench with rpcgen and libtirpc: one value, encoded or decoded (and freed) COUNT times.
  * usage: loop_xdr uint1M|list2000|file1M|opaque1M|opaque16M encode|decode COUNT
  * With -DLIBRARY, on liboncrpc too: check in place of decode, by the declarations on standard input, which are read
- * once; find, which finds the three fields of file1M that are strings, each by its path; parts, which puts the value's
- * parts into an array that is large enough; asked, which asks first how large;
+ * once; find, which finds the three fields of file1M that are strings, each by its path; cursor, which goes over its
+ * parts up to the last of the three; parts, which puts the value's parts into an array that is large enough; asked,
+ * which asks first how large;
  * write, which writes the value by its items, as its parts tell them, and compares its bytes; or read, which reads and
  * frees the declarations COUNT times. */
 #include <stdio.h>
@@ -43,6 +44,26 @@ static void find(const char *wire, size_t length, long count) {
             if (oncrpc_declarations_find(&held, "file", 4, ONCRPC_MOST_DEPTH, ONCRPC_MOST_BYTES, wire, length,
                                          paths[k], strlen(paths[k]), &part, &outcome))
                 exit(1);
+    oncrpc_declarations_free(&held);
+}
+/* Of the ten parts the three are the third, the sixth and the eighth. The last two are not asked for. */
+static void go_over(const char *wire, size_t length, long count) {
+    static const size_t places[] = {4, 24, 32};
+    oncrpc_declarations held = declared(1);
+    oncrpc_parts cursor = ONCRPC_NONE;
+    oncrpc_value_part part;
+    oncrpc_outcome outcome;
+    for (long i = 0; i < count; i++) {
+        size_t found = 0;
+        if (oncrpc_declarations_parts_start(&held, "file", 4, ONCRPC_MOST_DEPTH, ONCRPC_MOST_BYTES, wire, length, &cursor,
+                                            &outcome))
+            exit(1);
+        while (found < 3) {
+            if (oncrpc_declarations_parts_next(&held, &cursor, wire, length, &part, NULL, 0)) exit(2);
+            if (part.role == ONCRPC_ROLE_CONTENT && part.at != places[found++]) exit(3);
+        }
+    }
+    oncrpc_parts_free(&cursor);
     oncrpc_declarations_free(&held);
 }
 static uint32_t put_into(oncrpc_declarations *held, const char *name, const char *wire, size_t length,
@@ -137,6 +158,10 @@ static void loop(const char *name, xdrproc_t f, void *value, size_t size, const 
     }
     if (!strcmp(work, "find")) {
         find(wire, length, count);
+        return;
+    }
+    if (!strcmp(work, "cursor")) {
+        go_over(wire, length, count);
         return;
     }
     if (!strcmp(work, "write")) {

@@ -153,6 +153,20 @@ class TheFileOfTheRfc(Case):
             self.file.decode("file", longer)
         self.assertEqual((follows.exception.status, follows.exception.at), (Status.MORE_FOLLOWS, 48))
 
+    def test_each_part(self):
+        parts = list(self.file.each_part("file", self.data))
+        self.assertEqual(parts, list(self.file.parts("file", self.data).parts))
+        going = self.file.each_part("file", self.data + b"more")
+        self.assertEqual([next(going).at for _ in range(4)], [0, 0, 4, 16])
+        owner = going.send(2)
+        self.assertEqual((owner.at, owner.name), (28, "owner"))
+        with self.assertRaises(StopIteration):
+            going.send(1)
+        with self.assertRaises(oncrpc.NoKindError):
+            next(self.file.each_part("folder", self.data))
+        with self.assertRaises(oncrpc.RefusedError):
+            next(self.file.each_part("file", self.data[:47]))
+
     def test_find(self):
         for path, at, content, depth, number in [
             ("filename", 4, b"sillyprog", 2, None),

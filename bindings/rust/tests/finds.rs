@@ -122,3 +122,42 @@ fn kinds_and_members() {
     assert_eq!(types, wanted.map(|(name, kind)| Ok((name.to_string(), kind))));
     assert_eq!(Declarations::read(b"const SIZE = 4;").unwrap().types().count(), 0);
 }
+
+#[test]
+fn each_part_by_a_cursor() {
+    let mut file = declared();
+    let wanted: Vec<_> = {
+        let (_, parts) = file.parts("file", Limits::MOST, INPUT).unwrap();
+        parts
+            .iter()
+            .map(|part| (part.at, part.bytes.to_vec(), part.name.to_vec(), part.depth, part.role))
+            .collect()
+    };
+    let mut cursor = file.cursor("file", Limits::MOST, INPUT).unwrap();
+    let mut found = Vec::new();
+    while let Some(part) = cursor.next().transpose().unwrap() {
+        found.push((
+            part.at,
+            part.bytes.to_vec(),
+            cursor.name().to_vec(),
+            part.depth,
+            part.role,
+        ));
+    }
+    assert!(cursor.next().is_none());
+    assert_eq!(found, wanted);
+}
+
+#[test]
+fn what_is_deeper_is_passed_over() {
+    let mut file = declared();
+    let mut cursor = file.cursor("file", Limits::MOST, INPUT).unwrap();
+    assert_eq!(cursor.checked().used, 48);
+    let places: Vec<_> = cursor.by_ref().take(4).map(|part| part.unwrap().at).collect();
+    assert_eq!((places, cursor.name()), (vec![0, 0, 4, 16], b"type".as_slice()));
+    cursor.skip_deeper(2).unwrap();
+    assert_eq!(cursor.next().unwrap().unwrap().at, 28);
+    assert_eq!(cursor.name(), b"owner");
+    cursor.skip_deeper(1).unwrap();
+    assert!(cursor.next().is_none());
+}

@@ -1,0 +1,3 @@
+pub mod Slot
+pub mod Holding
+pub mod Parts
