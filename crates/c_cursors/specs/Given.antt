@@ -1,7 +1,13 @@
 -- How C sees the answers of a cursor.
-use Rattle.std.specs.Prelude.{◌≡◌, ℕ}
+use Rattle.std.specs.Prelude.{◌≡◌, ℕ, true}
+use Rattle.xdr_cursor.specs.declared.cursor.Cursor.{Cursor}
+use Rattle.c_cursors.specs.Held.{is_lost}
 use Rattle.c_cursors.specs.declared.given.Given.{Given}
 use Rattle.c_cursors.specs.declared.given.Given.TheVariants as given
+
+-- a cursor is astray for ever
+abbrev pub IsStuck : (c c' : Cursor) → Given → Type 0
+IsStuck c c' a = (a ≡ given.Astray → is_lost c' ≡ true) × (is_lost c ≡ true → a ≡ given.Astray)
 
 -- how C sees the answer
 abbrev pub given_status : Given → ℕ

@@ -6,11 +6,11 @@ use Rattle.xdr_lang.specs.Declarations.{Declared}
 use Rattle.xdr_cursor.specs.Coming.{Awaits}
 use Rattle.xdr_cursor.specs.declared.cursor.Cursor.{Cursor}
 use Rattle.c_answers.specs.Buffers.{AreAtFront}
-use Rattle.c_paths.specs.Found.{nameless}
 use Rattle.c_values.specs.Parts.{IsPart}
 use Rattle.c_values.specs.declared.part.ValuePart.{ValuePart}
 use Rattle.c_cursors.specs.declared.given.Given.{Given}
 use Rattle.c_cursors.specs.declared.given.Given.TheVariants as given
+use Rattle.c_cursors.specs.Given.{IsStuck}
 
 -- what a caller lends: where a part is put, and a buffer for its name
 pub record Lends : Type 0 where
@@ -27,10 +27,10 @@ abbrev pub HasNameOf : List Entry → (count : ℕ) → Type 0
 HasNameOf [] count = ⊥
 HasNameOf (e ∷ es) count = count ≡ length e.name
 
--- C's part is this part of a value. Its name is put at the front of the buffer, unless that is empty.
+-- C's part is this part of a value, with the count of bytes of its name. That is put at the front of the buffer, unless
+-- this is empty.
 pub record IsPutPart (kinds : List KindView) (input : List ℕ) (old new : Lends) (e : Entry) : Type 0 where
-  pub part : IsPart kinds input [] [] (nameless e) (record new.part { name_count = 0 })
-  pub name_count : new.part.name_count ≡ length e.name
+  pub part : IsPart kinds input e.name [] e new.part
   pub name : 0 < length old.buffer → AreAtFront e.name old.buffer new.buffer
 
 -- of the parts that were to come the first is given and the others are still to come; or all are, and none is given
@@ -44,7 +44,7 @@ IsNext kinds input es c old new _ = ⊥
 
 -- where the buffer is too small that is told, and nothing else is put
 pub record IsTooSmall (old new : Lends) : Type 0 where
-  pub part : new.part ≡ record old.part { name_count = new.part.name_count }
+  pub part : new.part ≡ record (old.part) { name_count = new.part.name_count }
   pub buffer : new.buffer ≡ old.buffer
   pub some : 0 < length old.buffer
   pub less : length old.buffer < new.part.name_count
@@ -58,11 +58,12 @@ IsPut input old new given.NoDeclarations = ⊥
 IsPut input old new given.NoCursor = ⊥
 IsPut input old new _ = new ≡ old
 
--- and wherever the cursor stands, this is right of the parts that were to come
-abbrev pub IsGiven : List KindView → (input : List ℕ) → (c c' : Cursor) → (old new : Lends) → Given → Type 0
-IsGiven kinds input c c' old new a =
-    IsPut input old new a
-    × ((es : List Entry) → Awaits c kinds input es → IsNext kinds input es c' old new a)
+-- The answer is right of the parts that were to come, wherever the cursor stands. This stands where the part and its
+-- name are put, and a cursor that has lost its place stays astray.
+pub record IsGiven (kinds : List KindView) (input : List ℕ) (c c' : Cursor) (old new : Lends) (a : Given) : Type 0 where
+  pub put : IsPut input old new a
+  pub next : (es : List Entry) → Awaits c kinds input es → IsNext kinds input es c' old new a
+  pub stuck : IsStuck c c' a
 
 -- the same of the cursor that is held
 abbrev pub IsGivenByHandle : List KindView → (input : List ℕ) → (held left : Option Cursor) → (old new : Lends) → Given

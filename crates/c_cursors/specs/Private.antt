@@ -1,1 +1,2 @@
-pub mod Unbegun
+pub mod Beginning
+pub mod Giving

@@ -1,10 +1,10 @@
 //! A cursor before the first part of a value, and its end.
-ghost use Rattle.std.specs.Prelude.{◌≡◌, ◌<◌, length, None, Some, option_map};
+ghost use Rattle.std.specs.Prelude.{◌≡◌, ◌≤◌, ◌<◌, length, None, Some, option_map};
 ghost use Rattle.xdr_lang.specs.Views.{declared_of};
 ghost use Rattle.c_values.specs.Statuses.{Reports};
-ghost use Rattle.c_cursors.specs.Held.{cursor_of};
+ghost use Rattle.c_cursors.specs.Held.{cursor_of, used_of};
 ghost use Rattle.c_cursors.specs.Begun.{IsBegun, IsBegunByHeld};
-ghost use Rattle.c_cursors.specs.Private.Unbegun.{IsUnbegun};
+ghost use Rattle.c_cursors.specs.Private.Beginning.{IsUnbegun, IsCounted, IsKept};
 
 use super::handle::PartsCursor;
 use super::state::State;
@@ -27,7 +27,35 @@ fn refusal(fault: DecodeFault) -> Answer
     }
 }
 
-/// Keeps a cursor over the parts of the value that begins the input.
+/// The answer to a value of so many bytes, which begins the input.
+fn counted(used: usize, input: &[u8]) -> Answer
+    requires { used ≤ length input.now }
+    ensures { IsCounted used input.now result }
+{
+    if used < input.len() {
+        Answer::Followed { used }
+    } else {
+        Answer::Whole { used }
+    }
+}
+
+/// Keeps a cursor over the parts of the value that begins the input. What was held before is freed.
+fn keep_cursor(alloc: Global, cursor: Cursor, input: &[u8], handle: &mut PartsCursor) -> Answer
+    requires { used_of cursor ≤ length input.now }
+    ensures { IsKept cursor input.now (option_map cursor_of handle.old.held) (option_map cursor_of handle.new.held)
+        result }
+{
+    let count = cursor.used();
+    match Box::new(alloc, State { cursor }) {
+        Ok(state) => {
+            keep(alloc, handle, state);
+            counted(count, input)
+        }
+        Err(_) => Answer::NoMemory,
+    }
+}
+
+/// Starts a cursor before the first part of the value that begins the input, and keeps it.
 fn start_in(
     alloc: Global,
     schema: &Schema,
@@ -41,19 +69,9 @@ fn start_in(
         (option_map cursor_of handle.old.held) (option_map cursor_of handle.new.held) result }
 {
     let _in_range = limits.depth();
-    let cursor = match Cursor::start(alloc, schema, kind, limits, input) {
-        Ok(cursor) => cursor,
-        Err(fault) => return refusal(fault),
-    };
-    let used = cursor.used();
-    let Ok(state) = Box::new(alloc, State { cursor }) else {
-        return Answer::NoMemory;
-    };
-    keep(alloc, handle, state);
-    if used < input.len() {
-        Answer::Followed { used }
-    } else {
-        Answer::Whole { used }
+    match Cursor::start(alloc, schema, kind, limits, input) {
+        Ok(cursor) => keep_cursor(alloc, cursor, input, handle),
+        Err(fault) => refusal(fault),
     }
 }
 
@@ -77,8 +95,14 @@ fn start_by(
     let Some(limits) = Limits::new(depth, bytes) else {
         return Answer::BadLimits;
     };
-    let schema = &declarations.declared().schema;
-    start_in(alloc, schema, kind, limits, input, handle)
+    start_in(
+        alloc,
+        &declarations.declared().schema,
+        kind,
+        limits,
+        input,
+        handle,
+    )
 }
 
 /// Starts a cursor before the first part of the value that begins the input, as `oncrpc_declarations_parts_start`

@@ -2,8 +2,8 @@
 //! answer.
 //!
 //! - `handle`, `state`: the cursor that C keeps. `beginning`: a cursor before the first part. `giving`: the next part.
-//!   `passing`: parts that are passed over. `given`: the answers, and how C sees them.
-//! - `examples`: what the contracts make certain for chosen inputs.
+//!   `putting`: a part put where C lends a place. `passing`: parts that are passed over.
+//! - `given`: the answers, and how C sees them. `examples`: what the contracts make certain for chosen inputs.
 #![tactic(auto)]
 
 mod beginning;
@@ -12,6 +12,7 @@ mod given;
 mod giving;
 mod handle;
 mod passing;
+mod putting;
 mod state;
 
 pub use beginning::{free_cursor, start_cursor};

@@ -7,24 +7,25 @@ ghost use Rattle.c_cursors.specs.Passing.{IsPassed, IsPassedByHandle, IsPassedBy
 
 use super::given::Given;
 use super::handle::PartsCursor;
+use super::state::State;
 use c_handles::{keep, taken};
 use c_values::Handle;
 use std::alloc::Global;
-use xdr_cursor::{Cursor, CursorFault};
+use xdr_cursor::CursorFault;
 use xdr_types::Schema;
 
 /// Passes over the parts that are deeper.
-fn skip_in(cursor: &mut Cursor, schema: &Schema, input: &[u8], depth: u32) -> Given
-    ensures { IsPassed schema.now.kinds input.now depth cursor.old cursor.new result }
+fn skip_in(state: &mut State, schema: &Schema, input: &[u8], depth: u32) -> Given
+    ensures { IsPassed schema.now.kinds input.now depth (cursor_of state.old) (cursor_of state.new) result }
 {
-    match cursor.skip(schema, input, depth) {
+    match state.cursor.skip(schema, input, depth) {
         Ok(()) => Given::Done,
         Err(CursorFault::NoMemory) => Given::NoMemory,
         Err(CursorFault::Astray) => Given::Astray,
     }
 }
 
-// The same by a handle.
+/// The same by a handle.
 fn skip_by(
     alloc: Global,
     schema: &Schema,
@@ -37,7 +38,7 @@ fn skip_by(
 {
     match taken(alloc, handle) {
         Some(mut state) => {
-            let answer = skip_in(&mut state.cursor, schema, input, depth);
+            let answer = skip_in(&mut state, schema, input, depth);
             keep(alloc, handle, state);
             answer
         }

@@ -87,6 +87,13 @@ impl Cursor {
         self.used
     }
 
+    /// Whether it has lost its place. Then `next` and `skip` answer `Astray`.
+    pub fn is_lost(&self) -> bool
+        ensures { result ≡ self.now.lost }
+    {
+        self.lost
+    }
+
     /// The next part; none where the value has ended. The part borrows from the schema and the input, and the cursor
     /// does not.
     pub fn next<'a>(
