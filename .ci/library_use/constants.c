@@ -235,6 +235,10 @@ FIELD(caller, host, 8, 4);
 FIELD(caller, has_host, 12, 1);
 FIELD(caller, trusts_remote, 13, 1);
 
+SIZE(parts, 16, 8);
+FIELD(parts, at, 0, 8);
+FIELD(parts, live, 8, 1);
+
 SIZE(session, 16, 8);
 FIELD(session, at, 0, 8);
 FIELD(session, live, 8, 1);

@@ -136,11 +136,18 @@ removed: true
 record: abc
 end: Err(Refused(Refusal {{ why: Truncated, at: 16 }}))
 """
+GONE_OVER = """a.txt: 5 bytes
+notes: 700 bytes
+no part is left
+eof at 56
+done
+"""
 AT_ONCE = "".join(f"thread {number}: 0 wrong\n" for number in range(4))
 EXAMPLES = [
     ("check.c", CHECKED),
     ("show.c", SHOWN),
     ("parts.c", PARTED),
+    ("cursor.c", GONE_OVER),
     ("write.c", WRITTEN),
     ("records.c", MARKED),
     ("port.c", PORT),
