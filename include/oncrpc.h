@@ -33,8 +33,8 @@
  *
  * THREADS. There is no state outside of the handles and no initialisation, so calls may run on several threads at once
  * where they share nothing that one of them fills. A handle may go from one thread to another, and serves one call at a
- * time. A check writes to it too, so threads that share one take a lock. Nothing here may be called from a signal
- * handler, nor in the forked child of a process with threads.
+ * time. Each call that is lent one writes to it, a check and the next part of a value too, so threads that share one
+ * take a lock. Nothing here may be called from a signal handler, nor in the forked child of a process with threads.
  *
  * STACK. No calls but oncrpc_declarations_to_json and oncrpc_declarations_from_json go down by the depth of a value: 64
  * KiB are enough for every other call, at the greatest limits too, as was measured on x86-64 Linux. The first of the two
