@@ -86,12 +86,19 @@ static uint32_t next(oncrpc_declarations *held, const struct value *value, size_
     return status;
 }
 
+/* The same, once more where memory was refused: the part still comes next. */
+static int next_at_last(oncrpc_declarations *held, const struct value *value, size_t more, oncrpc_parts *cursor,
+                        size_t index, int is_named) {
+    uint32_t status = next(held, value, more, cursor, index, is_named);
+    return (status == ONCRPC_NO_MEMORY ? next(held, value, more, cursor, index, is_named) : status) == ONCRPC_OK;
+}
+
 /* All parts, and none behind the last, which is told again. */
 static void go_over(oncrpc_declarations *held, const struct value *value, size_t more, int is_named) {
     oncrpc_parts cursor = ONCRPC_NONE;
     if (start(held, value, more, &cursor)) {
         size_t index = 0;
-        while (index < value->part_count && next(held, value, more, &cursor, index, is_named) == ONCRPC_OK) index++;
+        while (index < value->part_count && next_at_last(held, value, more, &cursor, index, is_named)) index++;
         if (index == value->part_count) {
             next(held, value, more, &cursor, index, is_named);
             next(held, value, more, &cursor, index, is_named);
@@ -108,11 +115,15 @@ static void pass_over(oncrpc_declarations *held, const struct value *value) {
         for (uint32_t depth = 0; depth < 6; depth++) {
             size_t index = 0, wanted = from;
             if (!start(held, value, 0, &cursor)) break;
-            while (index < from && next(held, value, 0, &cursor, index, 0) == ONCRPC_OK) index++;
+            while (index < from && next_at_last(held, value, 0, &cursor, index, 0)) index++;
             if (index < from) break;
             while (wanted < value->part_count && value->parts[wanted].depth > depth) wanted++;
             uint32_t status = oncrpc_declarations_parts_skip(held, &cursor, value->input, value->count, depth);
             judge(status == ONCRPC_OK, status);
+            if (status == ONCRPC_NO_MEMORY) {
+                status = oncrpc_declarations_parts_skip(held, &cursor, value->input, value->count, depth);
+                judge(status == ONCRPC_OK, status);
+            }
             if (status == ONCRPC_OK) next(held, value, 0, &cursor, wanted, 1);
         }
     }
