@@ -52,12 +52,14 @@ impl Error for CursorFault {}
 /// let mut declarations = Declarations::read(b"struct dir { string name<>; unsigned int sizes<>; bool last; };")?;
 /// let input = b"\0\0\0\x03usr\0\0\0\0\x02\0\0\0\x07\0\0\0\x08\0\0\0\x01";
 /// let mut cursor = declarations.cursor("dir", Limits::MOST, input)?;
+/// let mut places = Vec::new();
 /// while let Some(part) = cursor.next().transpose()? {
+///     places.push(part.at);
 ///     if cursor.name() == b"sizes" {
 ///         cursor.skip_deeper(part.depth)?; // its items
 ///     }
 /// }
-/// assert_eq!(cursor.name(), b"last");
+/// assert_eq!(places, [0, 0, 4, 8, 20]);
 /// # Ok::<(), Box<dyn std::error::Error>>(())
 /// ```
 #[derive(Debug)]
@@ -114,7 +116,8 @@ impl<'a> Cursor<'_, 'a> {
         self.checked
     }
 
-    /// The name of the part that was given last: that of the field or the arm; empty of the value itself and of items.
+    /// The name of the part that was given last: that of the field or the arm; empty of the value itself and of items,
+    /// and where none was given.
     #[must_use]
     pub fn name(&self) -> &[u8] {
         &self.name
