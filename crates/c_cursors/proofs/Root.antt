@@ -1,11 +1,13 @@
 -- The first part of a value is the value itself.
-use Rattle.std.proofs.Common.{◌≡◌, ℕ, ◌≤◌, List, [], ◌∷◌, ◌++◌, Option, None, Some, refl, ap, subst, ◌∙◌, arith}
+use Rattle.std.proofs.Common.{◌≡◌, ℕ, ◌+◌, ◌≤◌, List, [], ◌∷◌, ◌++◌, length, Option, None, Some, refl, ap, subst}
+use Rattle.std.proofs.Common.{◌∙◌, arith}
 use Rattle.xdr_types.specs.Kinds as xdr
 use Rattle.xdr_types.specs.Kinds.{KindView, Part, kind_at}
 use Rattle.xdr_types.specs.Tree as value
 use Rattle.xdr_types.specs.Tree.{Head, Tree}
-use Rattle.xdr_types.specs.Fits.{item_part}
-use Rattle.xdr_types.specs.Layout.{Entry, entries, shown, shown_bytes, shown_items}
+use Rattle.xdr_types.specs.Fits.{item_part, parts}
+use Rattle.xdr_types.specs.Spelling.{own}
+use Rattle.xdr_types.specs.Layout.{Entry, entries, layout, shown, shown_bytes, shown_items}
 use Rattle.xdr_lang.specs.Declarations.{Declared}
 use Rattle.xdr_cursor.specs.declared.cursor.Cursor.{Cursor}
 use Rattle.c_values.specs.Answers.{question}
@@ -38,7 +40,7 @@ shown_root p k (value.hyper z) more = (refl, refl)
 shown_root p k (value.unsigned_hyper n) more = (refl, refl)
 shown_root p k (value.boolean b) more = (refl, refl)
 shown_root p k (value.numbered z) more = (refl, refl)
-shown_root p k (value.bytes bs) more = bytes_root p k _ more
+shown_root p k (value.bytes bs) more = bytes_root p k (length bs) more
 shown_root p k (value.items n) more = items_root p k more
 shown_root p k value.fields more = (refl, refl)
 shown_root p k (value.tag z) more = (refl, refl)
@@ -47,7 +49,9 @@ shown_root p k value.absent more = (refl, refl)
 shown_root p k value.nothing more = (refl, refl)
 
 entries_root : (s : List KindView) (t : ℕ) (v : Tree) → IsRoot (entries s t v)
-entries_root s t v = shown_root (item_part t) (kind_at s t) v.0 _
+entries_root s t v =
+    shown_root (item_part t) (kind_at s t) v.0
+    (layout s (0 + length (own (kind_at s t) v.0)) (1 + 1) (parts (kind_at s t) v.0) v.1 ++ [])
 
 -- a part that is given of them is the first
 abbrev IsRootPart : Lends → Type 0

@@ -1,5 +1,5 @@
 //! The next part of a value.
-ghost use Rattle.std.specs.Prelude.{◌≡◌, ◌<◌, ◌≤◌, ℕ, List, length, option_map, IfSome, MatchOption};
+ghost use Rattle.std.specs.Prelude.{◌≡◌, ◌<◌, ℕ, List, length, option_map, IfSome, MatchOption};
 ghost use Rattle.xdr_types.specs.Layout.{Entry};
 ghost use Rattle.xdr_lang.specs.Views.{declared_of};
 ghost use Rattle.xdr_cursor.specs.Coming.{Awaits};
