@@ -8,7 +8,7 @@ ghost use Rattle.xdr_cursor.specs.Frames.{left_in};
 ghost use Rattle.xdr_cursor.specs.Coming.{Awaits, HandsOut, IsStep, BeginsNamed};
 ghost use Rattle.xdr_cursor.specs.Standing.{Stands};
 ghost use Rattle.xdr_cursor.specs.Private.Showing.{part_of};
-ghost use Rattle.xdr_cursor.specs.Private.Stepping.{Gives, IsSameValue};
+ghost use Rattle.xdr_cursor.specs.Private.Stepping.{IsSameValue};
 
 use crate::fault::CursorFault;
 use crate::frame::{Frame, Next, next_in};
