@@ -11,7 +11,7 @@ use Rattle.xdr_laws.proofs.Legal.{IsLegal, legal_is, both}
 use Rattle.std.specs.Prelude.{Option, Some, None, IfSome}
 use Rattle.xdr_parts.specs.Lent.{entry_of}
 use Rattle.xdr_parts.specs.declared.part.Lent.{Lent}
-use Rattle.xdr_cursor.specs.Coming.{Awaits, HandsOut, Skips, BeginsAbove}
+use Rattle.xdr_cursor.specs.Coming.{Awaits, HandsOut, Skips, BeginsAbove, BeginsNamed}
 use Rattle.xdr_cursor.specs.declared.cursor.Cursor.{Cursor}
 use Rattle.xdr_cursor.proofs.Deep.{AreDeep, layout_deep}
 
@@ -102,3 +102,8 @@ pub nothing_left : (c : Cursor) (kinds : List KindView) (input : List ℕ) (inne
 nothing_left c kinds input inner deep s =
     subst (λ (x : List Entry). Awaits c kinds input x)
     (all_passed inner s.0.passed s.0.rest deep s.0.joined s.1) s.0.awaits
+
+-- the name of the first of these parts
+pub name_of_first : (es rest : List Entry) (e : Entry) (name : List ℕ) → es ≡ e ∷ rest → BeginsNamed name es
+    → e.name ≡ name
+name_of_first es rest e name is h = subst (λ (x : List Entry). BeginsNamed name x) is h

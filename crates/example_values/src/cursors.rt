@@ -55,6 +55,49 @@ pub fn ends_behind_the_number<'a>(
     other
 }
 
+/// The value itself has no name.
+pub fn has_no_name_at_the_root(
+    alloc: Global,
+    schema: &Schema,
+    kind: KindId,
+    limits: Limits,
+    input: &[u8],
+) -> Option<usize>
+    requires known { kind.place < length schema.now.kinds }
+    requires kind { kind_at schema.now.kinds kind.place ≡ int }
+    ensures { IfSome result (λ count. count ≡ 0) }
+{
+    let Ok(mut cursor) = Cursor::start(alloc, schema, kind, limits, input) else {
+        return None;
+    };
+    let Some(name) = cursor.next_name(schema) else {
+        return None;
+    };
+    Some(name.len())
+}
+
+/// The part whose name was asked for still comes next.
+pub fn names_without_a_step<'a>(
+    alloc: Global,
+    schema: &'a Schema,
+    kind: KindId,
+    limits: Limits,
+    input: &'a [u8],
+) -> Option<Lent<'a>>
+    requires known { kind.place < length schema.now.kinds }
+    requires kind { kind_at schema.now.kinds kind.place ≡ int }
+    ensures { IfSome result (λ l. entry_of l ≡ entry 0 4 1 (item_part kind.place) of_number) }
+{
+    let Ok(mut cursor) = Cursor::start(alloc, schema, kind, limits, input) else {
+        return None;
+    };
+    let _name = cursor.next_name(schema);
+    let Ok(part) = cursor.next(schema, input) else {
+        return None;
+    };
+    part
+}
+
 /// Behind the first part of a structure all that is inside it is passed over, and nothing is left.
 pub fn passes_over_a_structure<'a>(
     alloc: Global,
