@@ -9,6 +9,7 @@ import array
 import copy
 import ctypes
 import gc
+import itertools
 import json
 import os
 import pickle
@@ -372,14 +373,32 @@ class Values(Case):
             string n<3>; int p[2]; int l<2>; int *m; shape q<>; };
     """
 
+    ALL = words(4294967295, 0x80000000, 0, 0xFFFFFFFF, 0xFFFFFFFE, 1, 0xFFFFFFFD, 2, 0xFFFFFFFF)
+    ALL += b"abc\0" + words(1) + b"d\0\0\0" + words(2) + b"ef\0\0" + words(11, 12, 1, 13, 1, 14)
+    ALL += words(2, 0xFFFFFFFD, 2, 9)
+
     def setUp(self):
         super().setUp()
         self.types = self.declared(self.TEXT)
 
+    def test_each_part(self):
+        """The parts one by one are those of the list, and so are those behind the ones that are passed over."""
+        for kind, data in [("all", self.ALL), ("node", words(1, 1, 2, 1, 3, 0)), ("twice", words(1, 1, 5))]:
+            parts = list(self.types.parts(kind, data).parts)
+            self.assertEqual(list(self.types.each_part(kind, data)), parts)
+            for seen in range(1, len(parts) + 1):
+                for depth in range(8):
+                    going = self.types.each_part(kind, data)
+                    self.assertEqual([next(going) for _ in range(seen)], parts[:seen])
+                    left = list(itertools.dropwhile(lambda it: it.depth > depth, parts[seen:]))
+                    try:
+                        found = [going.send(depth), *going]
+                    except StopIteration:
+                        found = []
+                    self.assertEqual(found, left)
+
     def test_all(self):
-        data = words(4294967295, 0x80000000, 0, 0xFFFFFFFF, 0xFFFFFFFE, 1, 0xFFFFFFFD, 2, 0xFFFFFFFF)
-        data += b"abc\0" + words(1) + b"d\0\0\0" + words(2) + b"ef\0\0" + words(11, 12, 1, 13, 1, 14)
-        data += words(2, 0xFFFFFFFD, 2, 9)
+        data = self.ALL
         wanted = {"u": 4294967295, "h": -(2**63), "v": 2**64 - 2, "b": True, "c": -3}
         wanted.update(s={"case": 2, "side": -1}, f=b"abc", o=b"d", n=b"ef", p=[11, 12], l=[13], m=14)
         wanted.update(q=[{"case": -3}, {"case": 2, "side": 9}])
