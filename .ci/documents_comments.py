@@ -3,6 +3,7 @@ import ast
 import inspect
 import re
 
+from documents_named import crates, declared_for_c
 from documents_tree import files_below, text_of
 
 LONGEST = 35
@@ -95,8 +96,14 @@ def mapped():
 
 
 def faults_of_map(path):
-    """Which modules of a file with many its head does not name."""
+    """Which modules of a file with many its head does not name, and what it names that is not there any more."""
     head = "\n".join(re.findall(r"^//!.*$", text_of(path), re.M))
     for name in modules_of(path):
         if f"`{name}`" not in head:
             yield f"{path}:1: `{name}`: a module that the head does not name"
+    crate = path.split("/")[1]
+    if not crate.startswith(UNREAD):
+        there = crates()[crate].modules.union(crates(), declared_for_c(), *(it.items for it in crates().values()))
+        for name in dict.fromkeys(re.findall(r"`([a-z]\w*)`", head)):
+            if name not in there:
+                yield f"{path}:1: `{name}`: no module of the crate, no crate and no item has this name"

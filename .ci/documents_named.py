@@ -83,7 +83,7 @@ def contract_of(said):
     if name not in crates() or not words:
         return []
     crate, words = home_of(name, words)
-    return crate.contracts.get("::".join(words), [])
+    return crate.contracts.get("::".join(crate.renamed.get(it, it) for it in words), [])
 
 
 def fault_of_item(said):

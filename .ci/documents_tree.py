@@ -78,22 +78,26 @@ def contract_at(text, at):
 
 
 class Crate:
-    """A crate's items by name, members by type and name, contracts by name, modules and what it hands on."""
+    """A crate's items by name, members by type and name, contracts by name, modules and what it hands on; what its root
+    hands on by itself, and its public functions that have a contract."""
 
     def __init__(self, name):
         self.name = name
         self.items, self.members, self.contracts, self.cited = set(), {}, {}, {}
         self.sources = files_below(f"crates/{name}/src", ".rt")
         self.modules = {it.removesuffix("/mod.rt").removesuffix(".rt").rsplit("/", 1)[1] for it in self.sources}
-        self.handed_on = {}
+        self.handed_on, self.renamed, self.outward, self.promising = {}, {}, set(), {}
         for path in self.sources:
             self.read(path, without_comments(text_of(path), "//"))
 
     def read(self, path, text):
         names = imported(text)
         for found in re.finditer(r"pub use (?:(\w+)::)?(?:\w+::)*(\{[^}]*\}|\w+)(?: as (\w+))?;", text):
-            for word in re.findall(r"\w+", found[3] or found[2]):
-                self.handed_on[word] = found[1]
+            self.renamed.update({new: old for old, new in re.findall(r"(\w+) as (\w+)", found[0])})
+            words = re.findall(r"\w+", re.sub(r"\w+ as ", "", found[3] or found[2]))
+            self.handed_on.update(dict.fromkeys(words, found[1]))
+            if path.endswith(("/src/lib.rt", "/src/main.rt")):
+                self.outward.update(words)
         opened = [(it, re.compile(r"[{;]").search(text, it.start())) for it in OWNER.finditer(text)]
         owners = [(it.start(), block_end(text, at.start()), owner_of(it)) for it, at in opened if at and at[0] == "{"]
         for begin, end, owner in owners:
@@ -115,10 +119,20 @@ class Crate:
         key = f"{owner}::{name}" if owner else name
         clauses = contract_at(text, found.end())
         self.contracts.setdefault(key, []).append((path, text.count("\n", 0, found.start()) + 1, clauses, names))
+        if public == "pub " and clauses:
+            self.promising[key] = path
         if public == "pub " or (owner and f"trait {owner}" in text):
             for it in clauses:
                 for spec in cited_by(it[2], names):
                     self.cited.setdefault(spec, f"{path}: {key}")
+
+
+    def promised(self):
+        """Each public function with a contract, as those outside call it, and the file that has it."""
+        for key, path in self.promising.items():
+            head, *rest = key.split("::")
+            for name in sorted(({head} | {new for new, old in self.renamed.items() if old == head}) & self.outward):
+                yield "::".join([self.name, name, *rest]), path
 
 
 def owner_of(found):

@@ -3,8 +3,10 @@
  *
  * ASKED=FILE gets a line for each: 'looks up NAME', 'connects tcp ADDRESS PORT', 'binds tcp ADDRESS PORT', the same of
  * udp, and 'waits N' of the milliseconds that a socket's reads wait, 0 where they have no end.
- * Each name has the address 127.0.0.1. AT=PORT: whatever is connected to is at that port of 127.0.0.1. Over TCP a free
- * port of it is bound, and over UDP the one that is asked for. FROM=ADDRESS: who connects comes from there.
+ * Each name has the address 127.0.0.1. AT=PORT: whatever is connected to is at that port of 127.0.0.1, else at the port
+ * that is asked for. Over TCP a free port of it is bound, and over UDP the one that is asked for. FROM=ADDRESS: who
+ * connects, or sends a datagram, comes from there. OWN=ADDRESS: the own end of a socket for datagrams that was
+ * connected. UNWATCHED=N: the Nth socket that is to be watched is not, since its user has as many watched as may be.
  * The clock stands still, but that a sleep ends at once, and it is so much later then. CLOCK=FILE: its milliseconds are
  * the eight bytes of that file, which others may change; a wait for events looks often. SILENT=1: nothing comes to a
  * socket that is connected, and a read ends at once with the time up for which it would wait.
@@ -35,7 +37,7 @@ enum { OFTEN = 5 };
 
 extern int accept4(int, struct sockaddr *restrict, socklen_t *restrict, int);
 
-static long waits, own_moment, *moment;
+static long waits, watched, own_moment, *moment;
 
 static void tell(const char *line, ...) {
     const char *file = getenv("ASKED");
@@ -107,6 +109,7 @@ static struct sockaddr_in port_of_this_host(int port) {
 int connect(int from, const struct sockaddr *to, socklen_t length) {
     const char *at = getenv("AT");
     struct sockaddr_in there = port_of_this_host(at ? atoi(at) : 0);
+    if (!at) there.sin_port = ((const struct sockaddr_in *)to)->sin_port;
     if (!is_told("connects", from, to)) return OWN(connect)(from, to, length);
     return OWN(connect)(from, (const struct sockaddr *)&there, sizeof there);
 }
@@ -125,6 +128,47 @@ int accept4(int at, struct sockaddr *restrict from, socklen_t *restrict length, 
     if (made >= 0 && there && from && from->sa_family == AF_INET)
         inet_pton(AF_INET, there, &((struct sockaddr_in *)from)->sin_addr);
     return made;
+}
+
+/* A datagram comes from FROM, at its sender's port, and one to FROM goes to that port of this host. */
+ssize_t recvfrom(int at, void *restrict to, size_t count, int how, struct sockaddr *restrict from,
+                 socklen_t *restrict length) {
+    ssize_t came = OWN(recvfrom)(at, to, count, how, from, length);
+    const char *there = getenv("FROM");
+    if (came >= 0 && there && from && from->sa_family == AF_INET)
+        inet_pton(AF_INET, there, &((struct sockaddr_in *)from)->sin_addr);
+    return came;
+}
+
+ssize_t sendto(int from, const void *what, size_t count, int how, const struct sockaddr *to, socklen_t length) {
+    struct sockaddr_in here = port_of_this_host(0);
+    if (!getenv("FROM") || !to || to->sa_family != AF_INET) return OWN(sendto)(from, what, count, how, to, length);
+    here.sin_port = ((const struct sockaddr_in *)to)->sin_port;
+    return OWN(sendto)(from, what, count, how, (const struct sockaddr *)&here, sizeof here);
+}
+
+/* The own end of a socket for datagrams that was connected is OWN, as the system had it. */
+int getsockname(int of, struct sockaddr *restrict end, socklen_t *restrict length) {
+    int told = OWN(getsockname)(of, end, length);
+    const char *own = getenv("OWN");
+    int kind = 0;
+    socklen_t size = sizeof kind;
+    struct sockaddr_in peer;
+    socklen_t room = sizeof peer;
+    if (told || !own || end->sa_family != AF_INET) return told;
+    getsockopt(of, SOL_SOCKET, SO_TYPE, &kind, &size);
+    if (kind == SOCK_DGRAM && getpeername(of, (struct sockaddr *)&peer, &room) == 0)
+        inet_pton(AF_INET, own, &((struct sockaddr_in *)end)->sin_addr);
+    return told;
+}
+
+int epoll_ctl(int poll, int what, int of, struct epoll_event *event) {
+    const char *unwatched = getenv("UNWATCHED");
+    if (what == EPOLL_CTL_ADD && unwatched && ++watched == atol(unwatched)) {
+        errno = ENOSPC;
+        return -1;
+    }
+    return OWN(epoll_ctl)(poll, what, of, event);
 }
 
 int setsockopt(int of, int level, int name, const void *value, socklen_t length) {

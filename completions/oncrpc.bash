@@ -6,11 +6,11 @@ _oncrpc() {
     [[ $before != = ]] || before=${COMP_WORDS[COMP_CWORD - 2]}
     COMPREPLY=()
     if ((COMP_CWORD == 1)); then
-        mapfile -t COMPREPLY < <(compgen -W "check show encode types records messages info call ping serve help --help --version" -- "$word")
+        mapfile -t COMPREPLY < <(compgen -W "check show encode types records messages capture info call ping serve help --help --version" -- "$word")
         return
     fi
     case ${COMP_WORDS[1]} in
-    help) mapfile -t COMPREPLY < <(compgen -W "check show encode types records messages info call ping serve" -- "$word") ;;
+    help) mapfile -t COMPREPLY < <(compgen -W "check show encode types records messages capture info call ping serve" -- "$word") ;;
     check)
         case $before in
         --name) mapfile -t COMPREPLY < <(compgen -W "int unsigned hyper unsigned-hyper bool opaque string" -- "$word") ;;
@@ -66,6 +66,16 @@ _oncrpc() {
         --replies) compopt -o filenames && mapfile -t COMPREPLY < <(compgen -f -- "$word") ;;
         *) mapfile -t COMPREPLY < <(compgen -W "--types --dialect --define --replies --json --help" -- "$word") ;;
         esac
+        ;;
+    capture)
+        case $before in
+        --types) compopt -o filenames && mapfile -t COMPREPLY < <(compgen -f -- "$word") ;;
+        --dialect) mapfile -t COMPREPLY < <(compgen -W "rpcgen" -- "$word") ;;
+        --define) : ;;
+        --port) : ;;
+        *) mapfile -t COMPREPLY < <(compgen -W "--types --dialect --define --port --json --stats --help" -- "$word") ;;
+        esac
+        ((COMP_CWORD != 2)) || [[ $word == -* ]] || { compopt -o filenames && mapfile -t COMPREPLY < <(compgen -f -- "$word"); }
         ;;
     info)
         case $before in

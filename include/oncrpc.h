@@ -19,13 +19,13 @@
  * Another NULL, or an overlap, is undefined behaviour, as it is of the C library. A call keeps no pointer: when it has
  * returned, the bytes are the caller's again.
  *
- * MEMORY. What is kept between calls is in a handle, oncrpc_declarations, oncrpc_registry, oncrpc_records or
- * oncrpc_session, and is given back by its free. All memory comes from malloc and realloc and goes to free. Where one
- * of them refuses, the answer is ONCRPC_NO_MEMORY, or the reply SYSTEM_ERR of a registry. No memory is lost then, and
- * the call may be made again. What a handle holds stays, with these exceptions: after oncrpc_declarations_read,
- * oncrpc_registry_start, oncrpc_records_start and oncrpc_session_start it holds nothing. After ONCRPC_NO_MEMORY of
- * oncrpc_records_feed and oncrpc_session_feed the stream is lost. No length or count that the input declares reserves
- * any memory.
+ * MEMORY. What is kept between calls is in a handle, oncrpc_declarations, oncrpc_parts, oncrpc_registry,
+ * oncrpc_records or oncrpc_session, and is given back by its free. All memory comes from malloc and realloc and goes to
+ * free. Where one of them refuses, the answer is ONCRPC_NO_MEMORY, or the reply SYSTEM_ERR of a registry. No memory is
+ * lost then, and the call may be made again. What a handle holds stays, with these exceptions: after
+ * oncrpc_declarations_read, oncrpc_registry_start, oncrpc_records_start and oncrpc_session_start it holds nothing.
+ * After ONCRPC_NO_MEMORY of oncrpc_records_feed and oncrpc_session_feed the stream is lost. No length or count that the
+ * input declares reserves any memory.
  *
  * HANDLES. A handle begins as ONCRPC_NONE, which is all zeros: `oncrpc_records records = ONCRPC_NONE;`. Only the calls
  * below may look into it or write it. A copy of it must not be used beside it. A handle on the stack that was not set
@@ -33,8 +33,8 @@
  *
  * THREADS. There is no state outside of the handles and no initialisation, so calls may run on several threads at once
  * where they share nothing that one of them fills. A handle may go from one thread to another, and serves one call at a
- * time. A check writes to it too, so threads that share one take a lock. Nothing here may be called from a signal
- * handler, nor in the forked child of a process with threads.
+ * time. Each call that is lent one writes to it, a check and the next part of a value too, so threads that share one
+ * take a lock. Nothing here may be called from a signal handler, nor in the forked child of a process with threads.
  *
  * STACK. No calls but oncrpc_declarations_to_json and oncrpc_declarations_from_json go down by the depth of a value: 64
  * KiB are enough for every other call, at the greatest limits too, as was measured on x86-64 Linux. The first of the two
@@ -108,6 +108,11 @@ enum {
 
     /* Of values that are written alone. */
     ONCRPC_BAD_ITEM = 26, /* the items are no value's. `why`: a reason; `at`: how many items are before the bad one */
+
+    /* Of a cursor over the parts of a value alone. */
+    ONCRPC_NO_PART = 34,   /* no part is left */
+    ONCRPC_NO_CURSOR = 35, /* the handle holds no cursor */
+    ONCRPC_ASTRAY = 36,    /* the declarations or the input are not those that the cursor was started with */
 
     /* Of one part of a value, and of kinds, alone. */
     ONCRPC_NO_SUCH_PART = 27, /* the value has no part with the path */
@@ -210,6 +215,12 @@ typedef struct {
     void *at;
     bool live;
 } oncrpc_declarations;
+
+/* A cursor over the parts of a value, or none. It begins as ONCRPC_NONE, and is given back by oncrpc_parts_free. */
+typedef struct {
+    void *at;
+    bool live;
+} oncrpc_parts;
 
 /* A part of a value. Each node of a value has one, with the bytes that are the node's own, and not those inside it. An
  * opaque or a string of variable size has two, its length and then its content. Places and counts are in bytes. */
@@ -494,6 +505,57 @@ uint32_t oncrpc_declarations_parts(
     oncrpc_value_part *parts, size_t parts_count,
     uint8_t *names, size_t names_count,
     oncrpc_parts_outcome *outcome);
+
+/* Starts a cursor before the first part of the value that begins `input`, by declarations that were read. The input is
+ * judged here, and not again. The declarations stay, whatever the status is. `name` and `input` may be NULL where their
+ * count is 0.
+ *
+ * ONCRPC_OK, _MORE_FOLLOWS: `at` says how many bytes the value has, and what `cursor` held before is freed.
+ * ONCRPC_REFUSED: `why` and `at`, as oncrpc_declarations_check tells them. At any status but the first two the cursor is
+ * as it was.
+ * ONCRPC_OK, _MORE_FOLLOWS, _REFUSED, _NO_KIND, _BAD_LIMITS, _NO_MEMORY, _NO_DECLARATIONS. */
+uint32_t oncrpc_declarations_parts_start(
+    oncrpc_declarations *declarations,
+    const void *name, size_t name_count,
+    uint32_t depth, uint32_t bytes,
+    const void *input, size_t input_count,
+    oncrpc_parts *cursor,
+    oncrpc_outcome *outcome);
+
+/* Gives the next part, in the order of oncrpc_declarations_parts: a loop over it sees each part once. The cursor keeps
+ * no pointer, so the declarations and the input are those that it was started with, the input in the same bytes and at
+ * least as long. It takes memory for a frame for each open node. `input` and `buffer` may be NULL where their count is
+ * 0.
+ *
+ * ONCRPC_OK: `part` is filled, and lies in the input. Its `name_at` is 0, and `name_count` says how many bytes its name
+ * has. They are put at the front of the buffer, where `buffer_count` is not 0. ONCRPC_NO_ROOM: the name has
+ * `name_count` bytes, more than the buffer, and the part still comes next; all else is as it was. ONCRPC_NO_PART: the
+ * value has ended. ONCRPC_NO_MEMORY: the call may be made again. ONCRPC_ASTRAY: the declarations or the input are
+ * others, which is answered until the cursor is started anew. With others any other answer may come as well; a part lies
+ * in the input all the same. At any status but the first two `part` and the buffer are as they were.
+ * ONCRPC_OK, _NO_MEMORY, _NO_DECLARATIONS, _NO_ROOM, _NO_PART, _NO_CURSOR, _ASTRAY. */
+uint32_t oncrpc_declarations_parts_next(
+    oncrpc_declarations *declarations,
+    oncrpc_parts *cursor,
+    const void *input, size_t input_count,
+    oncrpc_value_part *part,
+    uint8_t *buffer, size_t buffer_count);
+
+/* Passes over the parts that come next, as long as they are deeper than `depth`. Behind a part, with its depth, that is
+ * all inside its node; with its depth - 1, all that is left of the node around it. What has one size is passed over
+ * without a look, also all items of an array at once. Declarations, input and memory are as of
+ * oncrpc_declarations_parts_next.
+ *
+ * ONCRPC_OK: the next part is the first that is not deeper, or none is left. ONCRPC_NO_MEMORY: some of them were passed
+ * over, and the call may be made again. ONCRPC_OK, _NO_MEMORY, _NO_DECLARATIONS, _NO_CURSOR, _ASTRAY. */
+uint32_t oncrpc_declarations_parts_skip(
+    oncrpc_declarations *declarations,
+    oncrpc_parts *cursor,
+    const void *input, size_t input_count,
+    uint32_t depth);
+
+/* Frees the cursor that the handle holds, if any. The handle then holds none, so that a second call does nothing. */
+void oncrpc_parts_free(oncrpc_parts *cursor);
 
 /* Finds one part of the value that begins `input`, by declarations that were read: the one that `path` names. A path is
  * the names of fields and arms with dots between them, and `[i]` behind an array for an item: `what.dir.data`,
@@ -1099,6 +1161,9 @@ static inline const char *oncrpc_status_text(uint32_t status) {
     case ONCRPC_NO_SESSION: return "the handle holds no session";
     case ONCRPC_OUTPUT_WAITS: return "output is to be written first";
     case ONCRPC_NO_CALLER: return "there is no such caller";
+    case ONCRPC_NO_PART: return "no part is left";
+    case ONCRPC_NO_CURSOR: return "the handle holds no cursor";
+    case ONCRPC_ASTRAY: return "other declarations or another input";
     default: return "an unknown status";
     }
 }

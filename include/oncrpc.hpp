@@ -89,6 +89,9 @@ enum class Status : std::uint32_t {
     no_session = ONCRPC_NO_SESSION,
     output_waits = ONCRPC_OUTPUT_WAITS,
     no_caller = ONCRPC_NO_CALLER,
+    no_part = ONCRPC_NO_PART,
+    no_cursor = ONCRPC_NO_CURSOR,
+    astray = ONCRPC_ASTRAY,
 };
 
 /// Why bytes are refused, and from wrong_item on why items are.
@@ -430,7 +433,7 @@ enum class XdrType : std::uint32_t {
 struct Part {
     std::size_t at = 0;    ///< how many bytes of the input stand before it
     Bytes bytes;           ///< those of the node itself, in the input
-    std::string_view name; ///< of the field or the arm, in the Parts
+    std::string_view name; ///< of the field or the arm, in the Parts; of a Cursor's until its next call
     std::uint32_t depth = 0;
     std::uint32_t kind = 0;
     XdrType xdr_type = XdrType::void_;
@@ -467,6 +470,55 @@ class [[nodiscard]] Parts {
     Bytes input_;
     std::vector<oncrpc_value_part> parts_;
     std::vector<char> names_;
+    Checked checked_;
+};
+
+/// The parts of a value one by one, in the order of Parts, in memory for a frame of each open node and one name. The
+/// declarations and the input outlive it, and stay where they are.
+class [[nodiscard]] Cursor {
+  public:
+    /// How many bytes the value has, and whether more follow.
+    Checked checked() const noexcept { return checked_; }
+
+    /// The next part, or nothing behind the last. Its name stays until the next call.
+    [[nodiscard]] Answer<std::optional<Part>> next() {
+        oncrpc_value_part part{};
+        Status status = give(part);
+        while (status == Status::no_room) {
+            name_.resize(part.name_count);
+            status = give(part);
+        }
+        if (status == Status::no_part)
+            return std::optional<Part>();
+        if (status != Status::ok)
+            return detail::fails<std::optional<Part>>(Error(status));
+        return std::optional(Part{part.at, input_.part(part.at, part.count),
+                                  std::string_view(name_.data(), part.name_count), part.depth, part.kind,
+                                  static_cast<XdrType>(part.xdr_type), static_cast<Role>(part.role)});
+    }
+
+    /// Passes over the parts that come next, as long as they are deeper than `depth`.
+    Answer<void> skip(std::uint32_t depth) {
+        const auto status = static_cast<Status>(oncrpc_declarations_parts_skip(
+            declarations_, handle_.get(), input_.data(), input_.size(), depth));
+        return status == Status::ok ? Answer<void>() : detail::fails<void>(Error(status));
+    }
+
+  private:
+    friend class Declarations;
+
+    Cursor(oncrpc_declarations *declarations, Bytes input) : declarations_(declarations), input_(input), name_(64) {}
+
+    Status give(oncrpc_value_part &part) {
+        return static_cast<Status>(
+            oncrpc_declarations_parts_next(declarations_, handle_.get(), input_.data(), input_.size(), &part,
+                                           reinterpret_cast<std::uint8_t *>(name_.data()), name_.size()));
+    }
+
+    detail::Owned<oncrpc_parts, oncrpc_parts_free> handle_;
+    oncrpc_declarations *declarations_;
+    Bytes input_;
+    std::vector<char> name_;
     Checked checked_;
 };
 
@@ -664,6 +716,19 @@ class Declarations {
         found.input_ = input;
         found.checked_ = {outcome.at, status == Status::more_follows};
         return found;
+    }
+
+    /// A cursor before the first part of the value that begins the input, which is judged here.
+    Answer<Cursor> cursor(std::string_view name, Bytes input, Limits limits = {}) {
+        Cursor made(handle_.get(), input);
+        oncrpc_outcome outcome{};
+        const auto status = static_cast<Status>(oncrpc_declarations_parts_start(
+            handle_.get(), detail::lent(name), name.size(), limits.depth, limits.bytes, input.data(), input.size(),
+            made.handle_.get(), &outcome));
+        if (status != Status::ok && status != Status::more_follows)
+            return detail::fails<Cursor>(Error(status, outcome));
+        made.checked_ = {outcome.at, status == Status::more_follows};
+        return made;
     }
 
     /// The part that the path names, of the value that begins the input: `what.dir.data`, `list[3].name`. Its name is

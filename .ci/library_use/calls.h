@@ -7,6 +7,7 @@
 void check_values(void);    /* values.c, with each growth refused in turn, and so the next ten */
 void check_written(void);   /* writing.c: values by their items, each reason against them by its name */
 void check_paths(void);     /* paths.c: one part by its path, and its number */
+void check_cursors(void);   /* cursors.c: the parts one by one, and those that are passed over */
 void check_kinds(void);     /* kinds.c: kinds and their members */
 void check_json(void);      /* json.c: values as JSON, both ways */
 void check_dialect(void);   /* json.c: texts in rpcgen's dialect */

@@ -53,6 +53,9 @@ NUMBER(BAD_JSON, 30);
 NUMBER(NO_SESSION, 31);
 NUMBER(OUTPUT_WAITS, 32);
 NUMBER(NO_CALLER, 33);
+NUMBER(NO_PART, 34);
+NUMBER(NO_CURSOR, 35);
+NUMBER(ASTRAY, 36);
 
 NUMBER(BAD_BOOL, 1);
 NUMBER(BAD_NUMBERED, 2);
@@ -231,6 +234,10 @@ FIELD(caller, uid, 4, 4);
 FIELD(caller, host, 8, 4);
 FIELD(caller, has_host, 12, 1);
 FIELD(caller, trusts_remote, 13, 1);
+
+SIZE(parts, 16, 8);
+FIELD(parts, at, 0, 8);
+FIELD(parts, live, 8, 1);
 
 SIZE(session, 16, 8);
 FIELD(session, at, 0, 8);

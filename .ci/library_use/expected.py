@@ -120,6 +120,7 @@ filename at 4: sillyprog
 interpretor at 24: lisp
 owner at 32: john
 data at 40: (quit)
+filename at 0; type at 16; owner at 28; data at 36; 48 bytes
 written as in the RFC: true
 Err(BadItem {{ why: Unfinished, at: 4 }})
 Err(Undeclared(TextFault {{ kind: NameTwice, line: 1, column: 23 }}))
@@ -136,11 +137,18 @@ removed: true
 record: abc
 end: Err(Refused(Refusal {{ why: Truncated, at: 16 }}))
 """
+GONE_OVER = """a.txt: 5 bytes
+notes: 700 bytes
+no part is left
+eof at 56
+done
+"""
 AT_ONCE = "".join(f"thread {number}: 0 wrong\n" for number in range(4))
 EXAMPLES = [
     ("check.c", CHECKED),
     ("show.c", SHOWN),
     ("parts.c", PARTED),
+    ("cursor.c", GONE_OVER),
     ("write.c", WRITTEN),
     ("records.c", MARKED),
     ("port.c", PORT),

@@ -48,6 +48,22 @@ static void check_nested(void) {
     oncrpc_declarations_free(&held);
 }
 
+/* The same by a cursor: each part is one level deeper than the one before. */
+static void go_over_deepest(oncrpc_declarations *held) {
+    oncrpc_parts cursor = ONCRPC_NONE;
+    oncrpc_outcome outcome;
+    oncrpc_value_part part;
+    uint32_t count = 0;
+    uint32_t status = oncrpc_declarations_parts_start(held, bytes("o"), 1, ONCRPC_MOST_DEPTH, ONCRPC_MOST_BYTES, deepest,
+        sizeof deepest, &cursor, &outcome);
+    judge(status == ONCRPC_MORE_FOLLOWS && tells(&outcome, 8192, 0), status);
+    while ((status = oncrpc_declarations_parts_next(held, &cursor, deepest, sizeof deepest, &part, NULL, 0)) == ONCRPC_OK) {
+        count += part.depth == count + 1;
+    }
+    judge(status == ONCRPC_NO_PART && count == ONCRPC_MOST_DEPTH, status);
+    oncrpc_parts_free(&cursor);
+}
+
 /* The deepest value that the limit allows ends where a flag is 0: 2048 structures, and an optional in each. */
 static void list_deepest(const char *deep) {
     oncrpc_declarations held = ONCRPC_NONE;
@@ -61,6 +77,7 @@ static void list_deepest(const char *deep) {
     status = oncrpc_declarations_parts(&held, bytes("o"), 1, ONCRPC_MOST_DEPTH, ONCRPC_MOST_BYTES, deepest,
         sizeof deepest, &part, 1, &byte, 1, &found);
     judge(status == ONCRPC_NO_ROOM && found.at == 8192 && found.parts == 4096 && found.names == 2048, status);
+    go_over_deepest(&held);
     oncrpc_declarations_free(&held);
 }
 

@@ -12,6 +12,7 @@ static int round_of(long at, int all_later) {
     check_values();
     check_written();
     check_paths();
+    check_cursors();
     check_kinds();
     check_json();
     check_dialect();

@@ -209,7 +209,7 @@ void check_names(void) {
     check_faults();
     check_states();
     check_messages_refused();
-    check_texts(oncrpc_status_text, ONCRPC_OK, ONCRPC_NO_CALLER);
+    check_texts(oncrpc_status_text, ONCRPC_OK, ONCRPC_ASTRAY);
     check_texts(oncrpc_reason_text, ONCRPC_BAD_BOOL, ONCRPC_OUTSIDE);
     check_texts(oncrpc_json_text, ONCRPC_JSON_NOT_JSON, ONCRPC_JSON_TOO_LARGE);
     check_texts(oncrpc_fault_text, ONCRPC_BAD_CHARACTER, ONCRPC_NESTED_TOO_DEEP);

@@ -1,6 +1,25 @@
 /* NULL with a count of 0, at each pointer that has a count. */
 #include "calls.h"
 
+static void no_cursors(oncrpc_declarations *held) {
+    oncrpc_outcome outcome = {9, 9, 9, 9, 9};
+    oncrpc_value_part part = {9, 9, 9, 9, 9, 9, 9, 9};
+    oncrpc_parts cursor = ONCRPC_NONE;
+    uint32_t status = oncrpc_declarations_parts_start(held, NULL, 0, 1, 4, NULL, 0, &cursor, &outcome);
+    judge(status == ONCRPC_NO_KIND && tells(&outcome, 0, 0), status);
+    status = oncrpc_declarations_parts_start(held, "int", 3, 1, 4, NULL, 0, &cursor, &outcome);
+    judge(status == ONCRPC_REFUSED && tells(&outcome, 0, ONCRPC_TRUNCATED), status);
+    status = oncrpc_declarations_parts_next(held, &cursor, NULL, 0, &part, NULL, 0);
+    judge(status == ONCRPC_NO_CURSOR && part.at == 9, status);
+    status = oncrpc_declarations_parts_start(held, "int", 3, 1, 4, "\0\0\0\7", 4, &cursor, &outcome);
+    judge(status == ONCRPC_OK && tells(&outcome, 4, 0), status);
+    status = oncrpc_declarations_parts_next(held, &cursor, "\0\0\0\7", 4, &part, NULL, 0);
+    judge(status == ONCRPC_OK && !part.at && part.count == 4, status);
+    status = oncrpc_declarations_parts_next(held, &cursor, NULL, 0, &part, NULL, 0);
+    judge(status == ONCRPC_ASTRAY && !part.at, status);
+    oncrpc_parts_free(&cursor);
+}
+
 static void no_paths(oncrpc_declarations *held) {
     oncrpc_outcome outcome = {9, 9, 9, 9, 9};
     oncrpc_value_part part = {9, 9, 9, 9, 9, 9, 9, 9};
@@ -15,6 +34,7 @@ static void no_paths(oncrpc_declarations *held) {
     judge(status == ONCRPC_OK && tells(&outcome, 0, 0) && !part.at && part.count == 4, status);
     status = oncrpc_part_number(held, NULL, 0, &part, &number);
     judge(status == ONCRPC_NO_NUMBER && number.number == 9, status);
+    no_cursors(held);
     status = oncrpc_declarations_named(held, NULL, 0, &kind);
     judge(status == ONCRPC_NO_KIND && kind == 9, status);
     status = oncrpc_declarations_member(held, 0, 0, NULL, 0, &member);

@@ -1,5 +1,5 @@
 /* Each call at size, with all the memory that it asks for: 1 MiB of bytes where its input may have so many, and what it
- * takes at most where it may not. Want of memory is wrong here. */
+ * takes at most where it may not. An allocation failure is wrong here. */
 #include <stdio.h>
 
 #include "calls.h"
@@ -201,6 +201,32 @@ static void find_item(oncrpc_declarations *held) {
     }
     uint32_t status = oncrpc_part_number(held, input, MIB + 4, &part, &number);
     judge(status == ONCRPC_OK && number.signed_number == -2147483648 && !number.number, status);
+}
+
+/* The list by a cursor, each item and all at once. What is asked for is a few frames. */
+static void go_over_items(oncrpc_declarations *held) {
+    oncrpc_parts cursor = ONCRPC_NONE;
+    oncrpc_value_part part;
+    oncrpc_outcome outcome = {9, 9, 9, 9, 9};
+    put_number(input, ITEMS);
+    size_t before = growth_bytes(), count = 0;
+    uint32_t status = oncrpc_declarations_parts_start(held, bytes("list"), 4, 2, ONCRPC_MOST_BYTES, input, MIB + 4,
+        &cursor, &outcome);
+    judge(status == ONCRPC_OK && tells(&outcome, MIB + 4, 0), status);
+    while ((status = oncrpc_declarations_parts_next(held, &cursor, input, MIB + 4, &part, NULL, 0)) == ONCRPC_OK) {
+        count += part.at == (count ? 4 * count : 0) && part.count == 4 && part.depth == (count ? 2 : 1);
+    }
+    judge(status == ONCRPC_NO_PART && count == ITEMS + 1, status);
+    status = oncrpc_declarations_parts_start(held, bytes("list"), 4, 2, ONCRPC_MOST_BYTES, input, MIB + 4, &cursor,
+        &outcome);
+    judge(status == ONCRPC_OK, status);
+    status = oncrpc_declarations_parts_next(held, &cursor, input, MIB + 4, &part, NULL, 0);
+    judge(status == ONCRPC_OK && part.xdr_type == ONCRPC_TYPE_ARRAY, status);
+    status = oncrpc_declarations_parts_skip(held, &cursor, input, MIB + 4, 1);
+    judge(status == ONCRPC_OK, status);
+    status = oncrpc_declarations_parts_next(held, &cursor, input, MIB + 4, &part, NULL, 0);
+    judge(status == ONCRPC_NO_PART && growth_bytes() - before < FRAMES, status);
+    oncrpc_parts_free(&cursor);
 }
 
 /* The opaque of 1 MiB as one item, and the list of as many bytes, an item for each number. */
@@ -451,6 +477,7 @@ void check_sizes(void) {
     list_types(&declarations);
     list_value(&declarations);
     find_item(&declarations);
+    go_over_items(&declarations);
     write_value(&declarations);
     oncrpc_declarations_free(&declarations);
     normalise_records();

@@ -145,6 +145,41 @@ void check_paths() {
     JUDGE(found && GOT(declarations.number(*found))->number == std::uint64_t{1} << 63);
 }
 
+// The parts of the file of the RFC one by one, and those that are passed over.
+void check_cursor() {
+    auto declarations = std::move(*GOT(Declarations::read(file_text)));
+    auto cursor = std::move(*GOT(declarations.cursor("file", file_bytes)));
+    JUDGE(cursor.checked().used == 48 && !cursor.checked().more_follows);
+    std::string said;
+    auto part = *GOT(cursor.next());
+    while (part) {
+        if (part->role == Role::content)
+            said += std::string(part->name) + "=" + std::string(part->bytes.text()) + "@" +
+                    std::to_string(part->at) + " ";
+        part = *GOT(cursor.next());
+    }
+    JUDGE(said == "filename=sillyprog@4 interpretor=lisp@24 owner=john@32 data=(quit)@40 ");
+    JUDGE(!*GOT(cursor.next()));
+    cursor = std::move(*GOT(declarations.cursor("file", file_bytes)));
+    JUDGE((*GOT(cursor.next()))->xdr_type == XdrType::struct_);
+    JUDGE(GOT(cursor.skip(1)).has_value() && !*GOT(cursor.next()));
+    JUDGE(fails(GOT(declarations.cursor("folder", file_bytes)), Status::no_kind));
+    JUDGE(fails(GOT(declarations.cursor("bool", file_bytes)), Status::refused, Reason::bad_bool));
+}
+
+// A name of more bytes than a cursor has room for at first, and a word behind the value.
+void check_long_name() {
+    const std::string name(65, 'n');
+    const Buffer input = words({1, 2, 3});
+    auto declarations = std::move(*GOT(Declarations::read("struct wide { int " + name + "; int b; };")));
+    auto cursor = std::move(*GOT(declarations.cursor("wide", input)));
+    JUDGE(cursor.checked().used == 8 && cursor.checked().more_follows);
+    JUDGE((*GOT(cursor.next()))->depth == 1);
+    const auto part = *GOT(cursor.next());
+    JUDGE(part->name == name && part->depth == 2 && part->xdr_type == XdrType::int_);
+    JUDGE((*GOT(cursor.next()))->name == "b" && !*GOT(cursor.next()));
+}
+
 // The file of the RFC as JSON (docs/FORMATS.md), and a text in rpcgen's dialect.
 void check_json_and_dialect() {
     auto declarations = std::move(*GOT(Declarations::read(file_text)));
@@ -416,6 +451,8 @@ unsigned WRONG_OF_THIS() {
     check_values();
     check_parts();
     check_paths();
+    check_cursor();
+    check_long_name();
     check_json_and_dialect();
     check_items();
     check_texts();

@@ -211,7 +211,8 @@ def rows_of(program, afar, words, rows, descriptors):
     """Serves, and makes these calls: how many replies were right, and how many calls there were."""
     right = 0
     limit = ["prlimit", f"--nofile={descriptors}"] * (descriptors > 0)
-    with subprocess.Popen([*limit, program, "serve", "--port", "0", "--bind", *words], stdout=subprocess.PIPE) as it:
+    line = [*limit, program, "serve", "--port", "0", "--bind", *words]
+    with subprocess.Popen(line, stdout=subprocess.PIPE, stderr=subprocess.DEVNULL) as it:
         try:
             port = int(it.stdout.readline().split()[-1])
             for name, source, target, transport, message, reply in rows:

@@ -36,7 +36,7 @@ WORDS = [
 ]
 # The words, and whether they read standard input, which can be a terminal.
 READERS = {"": 1, "check": 1, "show": 1, "records": 1, "show --version": 1, "check --help": 0, "show -h": 0}
-READERS.update({"messages": 1, "messages --json": 1, "messages -h": 0, "help": 0, "help serve": 0, "info -h": 0, "serve --help": 0, "what": 0})
+READERS.update({"messages": 1, "messages --json": 1, "messages -h": 0, "capture -": 1, "capture --json -": 1, "capture --port 1 - --stats": 1, "capture -h": 0, "help": 0, "help serve": 0, "info -h": 0, "serve --help": 0, "what": 0})
 # What an rt says on standard error and its status, and then the status of the answer and what is said of it.
 MIDDLE = "run=ended status=0 runners=1 proved=no\n"
 ENDS = [
@@ -141,6 +141,23 @@ def input_read(folder):
         yield row(f"./oncrpc messages --replies, {size} bytes where 4096 may be", well, got)
 
 
+def capture_seen(folder):
+    """The file that 'capture' is to read is passed as standard input; one that cannot be read is a name of no file."""
+    tree = Noted(folder, "capture_seen", "#!/bin/sh\necho \"$*\"\ncat\n")
+    tree.write("deep/c.pcap", "packets")
+    for words, printed in (
+        ("deep/c.pcap", b"capture -\npackets"),
+        ("--port 9 deep/c.pcap --json", b"capture --port 9 - --json\npackets"),
+        ("--port=9 deep/c.pcap", b"capture --port=9 -\npackets"),
+        ("- --stats", b"capture - --stats\nin"),
+        ("none", b"capture none.pcap\n"),
+        ("deep", b"capture none.pcap\n"),
+        ("--port 9", b"capture --port 9\nin"),
+    ):
+        got = tree.run(f"./oncrpc capture {words}", b"in")
+        yield row(f"./oncrpc capture {words}, its file", is_answer(got, 0, printed, UNPROVED, 1), got)
+
+
 def texts_named(folder):
     """Each of several texts is seen, and one that is refused has the name that it was given."""
     program = "#!/bin/sh\ncat \"$3\" \"$5\"\necho \"declaration refused: 10 (7) at $5:12:3\" >&2\nexit 2\n"
@@ -200,5 +217,5 @@ def last_line(folder):
 
 
 def answer_rows(folder):
-    for rows in (words_passed, input_read, texts_named, text_seen, streams_whole, last_line):
+    for rows in (words_passed, input_read, capture_seen, texts_named, text_seen, streams_whole, last_line):
         yield from rows(folder)

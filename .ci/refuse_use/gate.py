@@ -128,6 +128,28 @@ def ahead_rows(folder):
         yield row(f"{words}, the archive ahead", is_well and is_gone and ends(got, 0, "15 passed, 0 failed"), got)
 
 
+# A part that ends well only once one behind it has begun, and that one.
+WAITS = """#!/bin/sh
+for _ in $(seq 600); do [ -e %s/begun ] && break; sleep 0.1; done
+[ -e %s/begun ] && echo "beside" && echo "2 passed, 0 failed"
+"""
+BEGINS = """#!/bin/sh
+touch %s/begun
+echo "behind"
+echo "2 passed, 0 failed"
+"""
+
+
+def beside_rows(folder):
+    """'.ci/refuse' goes on beside the parts behind it, and its lines come behind theirs."""
+    tree = checkout(folder, "beside")
+    tree.write(".ci/refuse", WAITS % (tree.bin, tree.bin), 0o755)
+    tree.write(".ci/install", BEGINS % tree.bin, 0o755)
+    got = tree.run(".ci/run")
+    is_behind = re.search(rb"^behind\n2 passed, 0 failed\nbeside\n", got[1], re.M)
+    yield row(".ci/run, a part beside those behind it", bool(is_behind) and ends(got, 0, "15 passed, 0 failed"), got)
+
+
 def gate_rows(folder):
     """Each part counts, by its last line and by its status."""
     tree = checkout(folder, "gate")
@@ -151,3 +173,4 @@ def gate_rows(folder):
             yield row(f".ci/run, {name} says {said!r}, {status}", is_first and ends(got, 1, rf"\d+ passed, {failed}"), got)
     yield from again_rows(folder)
     yield from ahead_rows(folder)
+    yield from beside_rows(folder)

@@ -7,6 +7,7 @@ import fcntl
 import os
 import re
 import resource
+import select
 import signal
 import socket
 import struct
@@ -19,6 +20,8 @@ import time
 sys.dont_write_bytecode = True
 sys.path.insert(0, os.path.dirname(os.path.dirname(os.path.realpath(__file__))))
 
+from refuse_use.network_files import BESIDE, allow_files, warning
+from refuse_use.ports import over_udp_alone
 from telling import tell
 from timing import SOON, WAIT, in_time
 
@@ -292,6 +295,22 @@ def full(program):
             yield from held(kept, clients, name)
 
 
+def short(program):
+    """A limit on open files that is below the connections and 32 files beside them has a line on standard error, which
+    is there before the first on standard output. At the very limit there is none."""
+    for connections in (None, 4, 1000):
+        words = [] if connections is None else ["--connections", str(connections)]
+        enough = (1024 if connections is None else connections) + BESIDE
+        for room in (enough - 1, enough):
+            with Kept(program, *words, room=room) as kept:
+                is_there = select.select([kept.process.stderr], [], [], 0)[0] != []
+                with kept.client() as made:
+                    well = is_answered(made, 1)
+                said, wanted = kept.end(), warning(connections, room)
+            well = well and said == (-signal.SIGTERM, b"", wanted) and is_there == (room < enough)
+            yield f"{' '.join(words)} where {room} files may be open", well, (said, wanted, is_there)
+
+
 def resting(program):
     """A client that says nothing for three seconds takes next to no processor time."""
     with Kept(program) as kept, kept.client() as silent:
@@ -357,10 +376,7 @@ def ended(program, *words, **more):
 
 def unheard(program, heap):
     """What could not be had, or failed, and why: by the line, behind which the system's own word stands."""
-    with socket.socket() as tcp, socket.socket(type=socket.SOCK_DGRAM) as udp:
-        tcp.bind((HOST, 0))
-        tcp.listen()
-        udp.bind((HOST, 0))
+    with socket.create_server((HOST, 0)) as tcp, over_udp_alone(HOST) as udp:
         (_, first), (_, second) = tcp.getsockname(), udp.getsockname()
         rows = [
             ("a port that is taken", {"port": first}, f"127.0.0.1 {first} over tcp: address in use"),
@@ -418,7 +434,8 @@ def answered(kept):
 
 def kept_rows(program, heap):
     """The rows, each whether it is as it should be."""
-    some = [at_once, lines, reset, full, resting, idle, bounded, lambda it: unheard(it, heap)]
+    allow_files()
+    some = [at_once, lines, reset, full, short, resting, idle, bounded, lambda it: unheard(it, heap)]
     for rows in [*some, lambda it: growths(it, heap)] if heap else some:
         for name, is_well, told in rows(program):
             yield tell(f"oncrpc serve, {name}", is_well, told)

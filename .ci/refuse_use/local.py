@@ -22,6 +22,7 @@ sys.dont_write_bytecode = True
 sys.path.insert(0, os.path.dirname(os.path.dirname(os.path.realpath(__file__))))
 
 from refuse_use.keeping import HOST, Kept, call, is_answered, marked, read, replied
+from refuse_use.ports import over_udp_alone
 from telling import tell
 from timing import WAIT
 
@@ -228,8 +229,7 @@ def in_the_way(program, folder):
 
 def unmade(program, heap, folder):
     """Where another socket or random bytes cannot be had, no file is made at the path."""
-    with socket.create_server((HOST, 0)) as taken, socket.socket(type=socket.SOCK_DGRAM) as over_udp:
-        over_udp.bind((HOST, 0))
+    with socket.create_server((HOST, 0)) as taken, over_udp_alone(HOST) as over_udp:
         for over, held in (("tcp", taken), ("udp", over_udp)):
             port = held.getsockname()[1]
             said = refused(program, f"{folder}/socket", port)

@@ -51,10 +51,10 @@ def counts(calls, replies, others, refused, unjudged, unasked):
     return b"calls %d replies %d others %d refused %d unjudged %d unasked %d\n" % numbers
 
 
-def ended(program, folder, line, given, **variables):
+def ended(program, folder, line, given, command=("messages",), **variables):
     """The status and both streams."""
     how = {"cwd": folder, "input": given, "capture_output": True, "env": {**os.environ, **variables}, "timeout": LIMIT}
-    got = subprocess.run([program, "messages", *line.split()], **how)
+    got = subprocess.run([program, *command, *line.split()], **how)
     return got.returncode, got.stdout, got.stderr
 
 
@@ -74,13 +74,16 @@ def is_cut(whole, got, ending):
 
 
 class Sweep:
-    """Runs of the program in a folder; without a heap nothing is refused in turn."""
+    """Runs of a command of the program in a folder; without a heap nothing is refused in turn."""
 
-    def __init__(self, program, folder, heap):
-        self.program, self.folder, self.heap, self.firsts = program, folder, heap, {}
+    def __init__(self, program, folder, heap, command=("messages",)):
+        self.program, self.folder, self.heap, self.command, self.firsts = program, folder, heap, command, {}
+
+    def ended(self, line, given, **variables):
+        return ended(self.program, self.folder, line, given, self.command, **variables)
 
     def count(self, line, given, variable):
-        return counted(self.program, self.folder, ["messages", *line.split()], given, self.heap, variable)
+        return counted(self.program, self.folder, [*self.command, *line.split()], given, self.heap, variable)
 
     def first(self, line):
         """The number of a growth shortly before the first that comes with a record: those before are of the words and
@@ -92,14 +95,14 @@ class Sweep:
     def over(self, line, given, begin=None):
         """What the whole run gives, how many growths, reads and writes it makes, and which refused go wrong: growths
         from this number on."""
-        whole, numbers, bad = ended(self.program, self.folder, line, given), [], []
+        whole, numbers, bad = self.ended(line, given), [], []
         for count, refuse, ending in REFUSED if self.heap else ():
             numbers.append(self.count(line, given, count))
             grows = refuse == "REFUSE_GROWTH"
             first = (begin or self.first(line)) if grows else 1
             for number in range(first, numbers[-1] + 2):
                 for refused in (str(number), f"{number}..") if grows else (str(number),):
-                    got = ended(self.program, self.folder, line, given, LD_PRELOAD=self.heap, **{refuse: refused})
+                    got = self.ended(line, given, LD_PRELOAD=self.heap, **{refuse: refused})
                     if not is_cut(whole, got, ending):
                         bad.append((refuse, refused, got))
         return whole, numbers, bad
@@ -108,5 +111,5 @@ class Sweep:
         """Prints a row, and returns whether it is as it should be: the status, the output, and each that is refused."""
         whole, numbers, bad = self.over(line, given, begin)
         well = whole[:2] == wanted and not bad
-        said = f"messages, {what}, {numbers} growths, reads and writes refused"
+        said = f"{self.command[0]}, {what}, {numbers} growths, reads and writes refused"
         return tell(said, well, [whole, wanted, *bad[:3]])

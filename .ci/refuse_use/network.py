@@ -2,23 +2,24 @@
 which '.ci/sockets.c' stands, so that each port, each host and each time can be asked for."""
 import contextlib
 import itertools
-import mmap
 import os
 import re
-import resource
 import shutil
 import socket
 import struct
 import subprocess
 import tempfile
-import threading
 
 from refuse_use.answering import Server
 from refuse_use.called import HOST, marked, opaque, run, success, words
 from refuse_use.keeping import call, is_answered, is_closed, read, replied
 from refuse_use.network_asked import CALLS, COUNTED, ENDLESS, ENDLESS_LINE, FILES, INFOS, KEPT, PINGS, long_calls
+from refuse_use.network_called import called_rows
+from refuse_use.network_files import allow_files, warning
+from refuse_use.network_info import info_rows
+from refuse_use.network_running import Clock, Network, Running, port_in
 from telling import tell
-from timing import WAIT
+from timing import WAIT, wait_until
 
 ROOT = os.path.dirname(os.path.dirname(os.path.dirname(os.path.realpath(__file__))))
 # Another host, from which clients of a registry come, and what it answers them that set a row: that it is denied
@@ -28,23 +29,8 @@ ROW = (0x20000000, 1, 6, 2049)
 TOO_WEAK, DONE = struct.pack(">5I", 7, 1, 1, 1, 5), replied(7, 1)
 # The registry's call for an address in version 4, and the address that it tells, of port 2049.
 GETADDR, AT_2049 = words(100000, 4, 3), opaque(b"127.0.0.1.8.1")
-# The clients at once of a registry that may have more, the seconds in which one has not answered that is to wait, and
-# the most descriptors that are needed.
-MANY, WAITED, MOST_FILES = 1100, 0.2, 4096
-
-
-class Network:
-    """What stands for the network of a run, and what was asked of it."""
-
-    def __init__(self, sockets, folder):
-        self.file, self.variables = f"{folder}/asked", {"LD_PRELOAD": sockets, "ASKED": f"{folder}/asked"}
-        with open(self.file, "wb"):
-            pass
-
-    def asked(self, what):
-        """What was asked in lines that begin so."""
-        with open(self.file, encoding="utf-8") as it:
-            return [line[len(what) + 1 :].rstrip("\n") for line in it if line.startswith(f"{what} ")]
+# The clients at once of a registry that may have more, and the seconds in which one has not answered that is to wait.
+MANY, WAITED = 1100, 0.2
 
 
 @contextlib.contextmanager
@@ -112,45 +98,6 @@ def endless_row(program, folder, sockets):
             return told == ENDLESS_LINE * 5 and it.process.poll() is None, told
 
 
-class Running:
-    """A run that this ends, and its first line."""
-
-    def __init__(self, program, folder, line, **variables):
-        # (a pipe is full behind the lines of a thousand connections)
-        self.faults = tempfile.TemporaryFile()
-        how = {"cwd": folder, "stdout": subprocess.PIPE, "stderr": self.faults, "env": {**os.environ, **variables}}
-        self.process = subprocess.Popen([program, *line], **how)
-
-    def __enter__(self):
-        return self
-
-    def __exit__(self, *_):
-        if not self.process.stdout.closed:
-            self.end()
-        self.faults.close()
-
-    def end(self):
-        """Ends it: what is left of standard output, and standard error."""
-        self.process.kill()
-        rest, _ = self.process.communicate()
-        self.faults.seek(0)
-        return rest, self.faults.read()
-
-    def lines(self, count):
-        """So many lines, or those before it has ended; it is ended where they do not come."""
-        late = threading.Timer(WAIT, self.process.kill)
-        late.start()
-        told = b"".join(self.process.stdout.readline() for _ in range(count))
-        late.cancel()
-        return told
-
-
-def port_in(line):
-    """The port of the first line of a registry; 0 where it says none."""
-    said = re.fullmatch(rb"listening on [\d.]+ (\d+)\n", line)
-    return int(said[1]) if said else 0
-
-
 def told_by_datagram(port):
     """What a registry answers to a datagram."""
     with socket.socket(type=socket.SOCK_DGRAM) as asking:
@@ -179,20 +126,6 @@ def counted_row(program, folder, sockets, row):
     is_bound = bound == [f"tcp 127.0.0.1 {asked}", f"udp 127.0.0.1 {port}"]
     is_well = all(well) and printed == wanted and is_bound and ended == (0 if ends else None)
     return is_well, (well, printed, bound, ended)
-
-
-class Clock:
-    """The clock of a run: how many seconds have gone."""
-
-    def __init__(self, folder):
-        self.file = f"{folder}/clock"
-        with open(self.file, "wb") as it:
-            it.write(bytes(8))
-        with open(self.file, "r+b") as it:
-            self.bytes = mmap.mmap(it.fileno(), 8)
-
-    def set(self, seconds):
-        self.bytes[:] = struct.pack("=q", 1000 * seconds)
 
 
 def opened(port, clients, opening):
@@ -234,6 +167,10 @@ def is_local(folder, row, it):
         return is_answered(made, 3)
 
 
+# The last line of a registry that says what became of connections, once the last of these was idle too long.
+LAST_IDLE = re.compile(rb"^connection \d+ from 10\.9\.8\.7:\d+: Idle\n\Z", re.M)
+
+
 def kept_row(program, folder, sockets, row):
     """A registry that is kept: where it listens, how many it serves at once, whom it lets set a row, who is idle."""
     network, clock = Network(sockets, folder), Clock(folder)
@@ -249,33 +186,30 @@ def kept_row(program, folder, sockets, row):
         wanted = marked(DONE if row.insecure else TOO_WEAK)
         sets = read(last, len(wanted)) == wanted
         idle = is_idle_after(last, clock, row.idle)
+        # (the line of a connection comes behind its end)
+        verbose = row.verbose and wait_until(lambda: LAST_IDLE.search(it.said()))
         rest, told = it.end()
-    verbose = re.search(rb"^connection \d+ from 10\.9\.8\.7:\d+: Idle\n\Z", told, re.M) if row.verbose else told == b""
+    verbose = verbose if row.verbose else told == warning(row.connections)
     is_bound = bound == [f"tcp {row.address} {row.port}", f"udp {row.address} {port}"]
     well = first == f"listening on {row.address} {port}\n".encode() and rest == b"" and is_bound and local and bounds
     told = first, bound, local, len(clients), bounds, sets, idle, told[-200:], rest
     return well and sets and idle and verbose and len(clients) == min(row.connections or 1, MANY), told
 
 
-def allow_files():
-    """Has this process and those that it starts open as many files as there are clients at once."""
-    soft, hard = resource.getrlimit(resource.RLIMIT_NOFILE)
-    if soft != resource.RLIM_INFINITY and soft < MOST_FILES:
-        most = MOST_FILES if hard == resource.RLIM_INFINITY else min(hard, MOST_FILES)
-        resource.setrlimit(resource.RLIMIT_NOFILE, (most, hard))
-
-
 def rows():
     """What judges a row, and its name and what it judges."""
     for row in itertools.chain(INFOS, CALLS, PINGS, long_calls()):
         yield asked_row, " ".join(row.line), [row]
-        if row.seconds is not None and len(row.given) < 100:
+        # (over UDP each second is a wait of its own, also where the clock goes by them)
+        short = row.seconds is not None and (row.seconds < 1000 or "--udp" not in row.line)
+        if short and len(row.given) < 100:
             yield unanswered_row, f"{' '.join(row.line)}, unanswered", [row]
     yield endless_row, " ".join(ENDLESS), []
     for row in COUNTED:
         yield counted_row, " ".join(row[0]), [row]
     for row in KEPT:
         yield kept_row, " ".join(row.line), [row]
+    yield from called_rows()
 
 
 def network_rows(program, sockets):
@@ -287,4 +221,6 @@ def network_rows(program, sockets):
                 is_well, told = judge(there, folder, sockets, *judged)
             except (OSError, subprocess.SubprocessError) as fault:
                 is_well, told = False, repr(fault)
+            yield tell(f"oncrpc {name}", is_well, told)
+        for name, is_well, told in info_rows(there, folder):
             yield tell(f"oncrpc {name}", is_well, told)

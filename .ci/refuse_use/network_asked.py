@@ -35,9 +35,10 @@ INFOS = [
     Asked(["info", "127.0.0.1", "0", "--vers", "2"], None, ["tcp 127.0.0.1 0"], None, dump(2), NONE, LINE_2),
     Asked(["info", "--vers=3", "", "65535"], "", ["tcp 127.0.0.1 65535"], None, dump(3), NONE, LINE_4),
     Asked(["info", "::1", "+007", "--vers", "04"], None, ["tcp ::1 7"], None, dump(4), NONE, LINE_4),
-    Asked(["info", "localhost", "111", "--udp"], "localhost", ["udp 127.0.0.1 111"], None, dump(4), NONE, LINE_4),
-    Asked(["info", "--udp", "--vers=2", "a", "1"], "a", ["udp 127.0.0.1 1"], None, dump(2), NONE, LINE_2),
+    Asked(["info", "localhost", "111", "--udp"], "localhost", ["udp 127.0.0.1 111"], 10, dump(4), NONE, LINE_4),
+    Asked(["info", "--udp", "--vers=2", "a", "1"], "a", ["udp 127.0.0.1 1"], 10, dump(2), NONE, LINE_2),
     Asked(["info", "a", "1", "--timeout", "1"], "a", ["tcp 127.0.0.1 1"], 1, dump(4), NONE, LINE_4),
+    Asked(["info", "--timeout=4294967295", "a", "1"], "a", ["tcp 127.0.0.1 1"], 4294967295, dump(4), NONE, LINE_4),
     Asked(
         ["info", "--timeout=4294967295", "a", "1", "--udp"],
         "a",

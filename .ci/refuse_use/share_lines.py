@@ -1,8 +1,13 @@
 """Rows of the declarations that are installed: they say of each procedure what the RFCs' texts say, and what real servers
-and clients exchanged is a value of what they declare."""
+and clients exchanged is a value of what they declare. And of the text for systemd, which is read and never started."""
 import os
+import shlex
 import subprocess
+import tempfile
 
+from refuse_use.keeping import Kept, is_answered
+from refuse_use.local import at_path
+from refuse_use.network_files import BESIDE, CONNECTIONS
 from refuse_use.recorded import RECORDED, SERVED
 from telling import tell
 from timing import LIMIT
@@ -34,6 +39,52 @@ RPCGENS = [
     ("yp", "rpcsvc/yp.x", ("100004.2.8.result",)),
     ("ypbind", "rpcsvc/yp.x", ()),
 ]
+# The text for systemd, and where services of libtirpc register themselves, as Debian's rpcbind.socket has it too.
+UNIT, SOCKET = "oncrpc-registry.service", "/run/rpcbind.sock"
+
+
+def unit_lines(path):
+    """What a text for systemd says: of each name its values, in their order."""
+    said = {}
+    with open(path, encoding="utf-8") as it:
+        for line in it:
+            name, is_said, value = line.rstrip("\n").partition("=")
+            if is_said and not line.startswith("#"):
+                said.setdefault(name, []).append(value)
+    return said
+
+
+def unit_rows(program):
+    """The registry of the unit has the place of its socket, its files and its port; and what stands where services of
+    libtirpc call is a link to that socket."""
+    said = unit_lines(f"{ROOT}/share/{UNIT}")
+    command, *words = shlex.split(said["ExecStart"][0])
+    path = words[words.index("--local") + 1]
+    folder, name = os.path.split(path)
+    well = (command, words[:3]) == ("oncrpc", ["serve", "--port", "111"]) and said["DynamicUser"] == ["yes"]
+    yield "the port of a registry, by a user of its own", well, words
+    yield "its socket in a folder of its own", [folder] == [f"/run/{it}" for it in said["RuntimeDirectory"]], said
+    links = said["ExecStartPost"], said["ExecStopPost"]
+    wanted = [f"+ln -sfT {path} {SOCKET}"], [f"+rm -f {SOCKET}"]
+    yield "a link to it where it is looked for", links == wanted, links
+    others = [set(it.split()) for it in (said["Conflicts"][0], said["After"][0])]
+    yield "rpcbind is stopped before, and starts behind it", others[0] <= others[1] and len(others[0]) == 2, others
+    families = set(said["RestrictAddressFamilies"][0].split())
+    yield "sockets over IPv4 and of this host", families == {"AF_INET", "AF_UNIX"}, families
+    held = said["AmbientCapabilities"], said["CapabilityBoundingSet"]
+    yield "no right but that to the port", held == (["CAP_NET_BIND_SERVICE"],) * 2, held
+    limit = int(said["LimitNOFILE"][0])
+    yield "files for all connections", limit >= CONNECTIONS + BESIDE, limit
+    with tempfile.TemporaryDirectory() as made:
+        own, link = f"{made}/{name}", f"{made}/link"
+        as_here = [own if it == path else it for it in words[3:]]
+        os.symlink(own, link)
+        with Kept(program, *as_here, room=limit) as kept:
+            listens = kept.process.stdout.readline() == f"listening on {own}\n".encode()
+            with at_path(link) as calling:
+                well = listens and is_answered(calling, 1)
+            ended = kept.end()
+    yield "its words, and a call by the link", well and ended[1:] == (b"", b""), (well, ended)
 
 
 def declared(program, path, *words):
@@ -61,6 +112,8 @@ def rpcgens_rows(program):
 
 def share_rows(program):
     """Each text beside the RFC's, and each recorded argument and result as a value to its last byte."""
+    for name, is_well, told in unit_rows(program):
+        yield tell(f"share/{UNIT}, {name}", is_well, told)
     yield from rpcgens_rows(program)
     for name, number in NUMBERS.items():
         found = declared(program, f"{ROOT}/share/oncrpc/{name}.x")

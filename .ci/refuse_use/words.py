@@ -5,7 +5,7 @@ import os
 import subprocess
 import tempfile
 
-from refuse_use.words_asked import MESSAGES, NAMES, NO_NAMES, ONE, RECORDS, REFUSED, TYPES, VALUES, long_rows
+from refuse_use.words_asked import CAPTURES, MESSAGES, NAMES, NO_NAMES, ONE, RECORDS, REFUSED, TYPES, VALUES, long_rows
 from refuse_use.words_help import HELP
 from telling import tell
 from timing import LIMIT
@@ -33,7 +33,7 @@ def shown(got):
 
 def asked_rows(program):
     """What words ask for shows in what is done."""
-    for words, files, given, *wanted in itertools.chain(VALUES, TYPES, RECORDS, MESSAGES, long_rows()):
+    for words, files, given, *wanted in itertools.chain(VALUES, TYPES, RECORDS, MESSAGES, CAPTURES, long_rows()):
         got = ended(program, words, files, given)
         yield f"{words}, {files}, {given[:40]}", got == tuple(wanted), shown(got)
 

@@ -3,6 +3,7 @@ refused.
 
 Values are those of RFC 4506 section 4, and JSON that of docs/FORMATS.md.
 """
+from refuse_use.packets import CLIENT, classic, datagram
 
 
 def pack(*numbers):
@@ -250,6 +251,38 @@ MESSAGES = [
         b"",
     ),
 ]
+# What a call has behind the header of its record, and a datagram with it.
+ASKED = called(6)[4:]
+FROM = b"127.0.0.1:700 > 127.0.0.1:%d "
+
+
+def to_port(port):
+    return datagram(CLIENT, (CLIENT[0], port), ASKED)
+
+
+CAPTURES = [
+    (["capture", "-"], {}, classic([]), 0, counts(0, 0), b""),
+    (["capture", "c.pcap"], {"c.pcap": classic([])}, b"", 0, counts(0, 0), b""),
+    # A call to each of three ports, of which two are named.
+    (
+        ["capture", "--port", "2049", "c.pcap", "--port=111", "--types=b"],
+        {"c.pcap": classic([to_port(port) for port in (2049, 112, 111)], 101), "b": DECLARED},
+        b"",
+        0,
+        b"1 1.000000000 " + FROM % 2049 + b"call 7 6.1.1 B AUTH_NONE\n3 1.000002000 " + FROM % 111
+        + b"call 7 6.1.1 B AUTH_NONE\n" + counts(2, 0),
+        b"",
+    ),
+    (
+        ["capture", "--json", "--types=a", "-", "--stats", "--types", "b"],
+        {"a": b"program P { version V { void A(void) = 1; } = 1; } = 5;", "b": DECLARED},
+        classic([to_port(111)], 101),
+        0,
+        b'{"type":"procedure","name":"6.1.1 B","calls":1,"replies":0,"refused":0}\n'
+        b'{"type":"counts","calls":1,"replies":0,"others":0,"refused":0,"unjudged":0,"unasked":0}\n',
+        b"",
+    ),
+]
 RECORDS = [
     (["records"], {}, pack(0x80000000 + MOST + 1), 1, b"", b"refused TooLong at 0\n"),
     (["records", "--limit", "4294967295", "--hex"], {}, b"00", 2, b"", b"limits refused\n"),
@@ -283,6 +316,9 @@ REFUSED = [
     ["show"],
     ["show", "--types", "a.x"],
     ["records", "--types", "a.x"],
+    ["capture"],
+    ["capture", "-", "--port", "65536"],
+    ["capture", "-", "c.pcap"],
     ["info"],
     ["info", "localhost"],
     ["info", "localhost", "65536"],

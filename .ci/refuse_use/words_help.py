@@ -101,6 +101,7 @@ OF_INFO = [
     b"\n  1  ",
     b"\n  4  ",
     b"WrongXid NUMBER",
+    b"over UDP 10",
     b"\n    $ oncrpc info 127.0.0.1 111",
 ]
 OF_CALL = [
@@ -149,6 +150,7 @@ OF_SERVE = [
     b"datagram K: reply",
     b"datagram K: no reply",
     b"socket fault: ADDR PORT over udp: WHY",
+    b"\n  warning: the limit on open files is L, and N may be needed\n",
     b"\n  3  ",
     b"\n  4  ",
     b"\n    $ oncrpc serve --port 111",
@@ -159,6 +161,16 @@ OF_MESSAGES = [
     b"\n  0  nothing is refused\n",
     b"\n    $ (printf",
 ]
+OF_CAPTURE = [
+    b"Usage: oncrpc capture",
+    b" <FILE>",
+    b"--port <N>",
+    b"--stats",
+    b"\n  missing N bytes ",
+    b"\n  refused WHY at N",
+    b"\n  file refused WHY at N",
+    b"\n  0  nothing is refused\n",
+]
 OF_ALL = [
     b"check",
     b"show",
@@ -166,6 +178,7 @@ OF_ALL = [
     b"types",
     b"records",
     b"messages",
+    b"capture",
     b"info",
     b"call",
     b"ping",
@@ -189,6 +202,7 @@ HELP = [
     (["help", "types"], OF_TYPES),
     (["records", "--help"], OF_RECORDS),
     (["help", "messages"], OF_MESSAGES),
+    (["help", "capture"], OF_CAPTURE),
     (["info", "--help"], OF_INFO),
     (["help", "call"], OF_CALL),
     (["ping", "--help"], OF_PING),

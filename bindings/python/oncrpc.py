@@ -41,8 +41,8 @@ import struct
 import threading
 import warnings
 from dataclasses import dataclass
-from typing import Any, Callable, Dict, Iterable, Iterator, List, NamedTuple, NoReturn, Optional, Tuple, Type
-from typing import TypeVar, Union
+from typing import Any, Callable, Dict, Generator, Iterable, Iterator, List, NamedTuple, NoReturn, Optional, Tuple
+from typing import Type, TypeVar, Union
 
 __all__ = [
     "Auth",
@@ -151,6 +151,9 @@ class Status(enum.IntEnum):
     NO_SESSION = 31
     OUTPUT_WAITS = 32
     NO_CALLER = 33
+    NO_PART = 34
+    NO_CURSOR = 35
+    ASTRAY = 36
 
 
 class Reason(enum.IntEnum):
@@ -727,6 +730,7 @@ _STRUCTS = {
     "oncrpc_records": _Handle,
     "oncrpc_caller": _Caller,
     "oncrpc_session": _Handle,
+    "oncrpc_parts": _Handle,
 }
 
 #: A part as it lies in an array of them: at, count, name_at, name_count, depth, kind, xdr_type, role.
@@ -753,6 +757,10 @@ _FUNCTIONS: Dict[str, List[Any]] = {
     "oncrpc_declarations_check": [_HELD, *_VALUE, _OUTCOME],
     "oncrpc_declarations_show": [_HELD, *_VALUE, *_LENT, _COUNT, _OUTCOME],
     "oncrpc_declarations_parts": [_HELD, *_VALUE, *_LENT, *_LENT, ctypes.POINTER(_PartsOutcome)],
+    "oncrpc_declarations_parts_start": [_HELD, *_VALUE, _HELD, _OUTCOME],
+    "oncrpc_declarations_parts_next": [_HELD, _HELD, *_LENT, ctypes.POINTER(_ValuePart), *_LENT],
+    "oncrpc_declarations_parts_skip": [_HELD, _HELD, *_LENT, _U32],
+    "oncrpc_parts_free": [_HELD],
     "oncrpc_declarations_find": [_HELD, *_VALUE, *_LENT, ctypes.POINTER(_ValuePart), _OUTCOME],
     "oncrpc_part_number": [_HELD, *_LENT, ctypes.POINTER(_ValuePart), ctypes.POINTER(_Number)],
     "oncrpc_declarations_named": [_HELD, *_LENT, ctypes.POINTER(_U32)],
@@ -1183,6 +1191,38 @@ class Declarations(_Owner):
             types = _named(XdrType, xdr_type), _named(Role, role)
             found.append(Part(at, data[at : at + count], own, depth, kind, *types))
         return Parts(found, *checked)
+
+    def each_part(self, name: str, data: Data, limits: Limits = Limits()) -> Generator[Part, Optional[int], None]:
+        """The parts of the value that begins the bytes one by one, in the order of `parts`, without a list of them.
+
+        Its `send(depth)` passes over the parts that come next, as long as they are deeper, and gives the one behind
+        them. With the depth of the last part that is all inside its node, with 1 less all that is left of the node
+        around it. To be gone through to its end, or closed.
+        """
+        cursor, part, outcome, names = _Handle(), _ValuePart(), _Outcome(), bytearray(64)
+        given = _value(name, data, limits)
+        lent = given[4:]
+        _checked(self._call("oncrpc_declarations_parts_start", *given, cursor, outcome), outcome)
+        try:
+            while True:
+                status = self._call("oncrpc_declarations_parts_next", cursor, *lent, part, *_lend(names))
+                if status == Status.NO_ROOM:
+                    names = bytearray(part.name_count)
+                    continue
+                if status == Status.NO_PART:
+                    return
+                if status != Status.OK:
+                    _fail(status)
+                own = names[: part.name_count].decode("utf-8", "replace")
+                types = _named(XdrType, part.xdr_type), _named(Role, part.role)
+                content = lent[0][part.at : part.at + part.count]
+                depth = yield Part(part.at, content, own, part.depth, part.kind, *types)
+                if depth is not None:
+                    status = self._call("oncrpc_declarations_parts_skip", cursor, *lent, _u(32, depth, "depth"))
+                    if status != Status.OK:
+                        _fail(status)
+        finally:
+            self._functions["oncrpc_parts_free"](cursor)
 
     def find(self, name: str, data: Data, path: str, limits: Limits = Limits()) -> Part:
         """The part that the path names, of the value that begins the bytes, without its name. Raises NoPartError.

@@ -9,6 +9,7 @@ import array
 import copy
 import ctypes
 import gc
+import itertools
 import json
 import os
 import pickle
@@ -152,6 +153,45 @@ class TheFileOfTheRfc(Case):
         with self.assertRaises(oncrpc.MoreFollowsError) as follows:
             self.file.decode("file", longer)
         self.assertEqual((follows.exception.status, follows.exception.at), (Status.MORE_FOLLOWS, 48))
+
+    def test_each_part(self):
+        parts = list(self.file.each_part("file", self.data))
+        self.assertEqual(parts, list(self.file.parts("file", self.data).parts))
+        going = self.file.each_part("file", self.data + b"more")
+        self.assertEqual([next(going).at for _ in range(4)], [0, 0, 4, 16])
+        owner = going.send(2)
+        self.assertEqual((owner.at, owner.name), (28, "owner"))
+        with self.assertRaises(StopIteration):
+            going.send(1)
+        with self.assertRaises(oncrpc.NoKindError):
+            next(self.file.each_part("folder", self.data))
+        with self.assertRaises(oncrpc.RefusedError):
+            next(self.file.each_part("file", self.data[:47]))
+
+    def test_each_part_is_given_back(self):
+        """At the end of the parts, where it is closed before it, and behind a fault; nothing where none was started."""
+        functions, freed = self.library._functions, []
+        free = functions["oncrpc_parts_free"]
+        functions["oncrpc_parts_free"] = lambda cursor: freed.append(free(cursor))
+        list(self.file.each_part("file", self.data))
+        self.assertEqual(len(freed), 1)
+        going = self.file.each_part("file", self.data)
+        next(going)
+        going.close()
+        self.assertEqual(len(freed), 2)
+        going = self.file.each_part("file", self.data)
+        next(going)
+        with self.assertRaises(OverflowError):
+            going.send(-1)
+        self.assertEqual(len(freed), 3)
+        with self.assertRaises(oncrpc.NoKindError):
+            next(self.file.each_part("folder", self.data))
+        self.assertEqual(len(freed), 3)
+
+    def test_long_name(self):
+        types = self.declared(f"struct wide {{ int {'n' * 65}; int b; }};")
+        found = [(it.name, it.depth) for it in types.each_part("wide", words(1, 2))]
+        self.assertEqual(found, [("", 1), ("n" * 65, 2), ("b", 2)])
 
     def test_find(self):
         for path, at, content, depth, number in [
@@ -358,14 +398,32 @@ class Values(Case):
             string n<3>; int p[2]; int l<2>; int *m; shape q<>; };
     """
 
+    ALL = words(4294967295, 0x80000000, 0, 0xFFFFFFFF, 0xFFFFFFFE, 1, 0xFFFFFFFD, 2, 0xFFFFFFFF)
+    ALL += b"abc\0" + words(1) + b"d\0\0\0" + words(2) + b"ef\0\0" + words(11, 12, 1, 13, 1, 14)
+    ALL += words(2, 0xFFFFFFFD, 2, 9)
+
     def setUp(self):
         super().setUp()
         self.types = self.declared(self.TEXT)
 
+    def test_each_part(self):
+        """The parts one by one are those of the list, and so are those behind the ones that are passed over."""
+        for kind, data in [("all", self.ALL), ("node", words(1, 1, 2, 1, 3, 0)), ("twice", words(1, 1, 5))]:
+            parts = list(self.types.parts(kind, data).parts)
+            self.assertEqual(list(self.types.each_part(kind, data)), parts)
+            for seen in range(1, len(parts) + 1):
+                for depth in range(8):
+                    going = self.types.each_part(kind, data)
+                    self.assertEqual([next(going) for _ in range(seen)], parts[:seen])
+                    left = list(itertools.dropwhile(lambda it: it.depth > depth, parts[seen:]))
+                    try:
+                        found = [going.send(depth), *going]
+                    except StopIteration:
+                        found = []
+                    self.assertEqual(found, left)
+
     def test_all(self):
-        data = words(4294967295, 0x80000000, 0, 0xFFFFFFFF, 0xFFFFFFFE, 1, 0xFFFFFFFD, 2, 0xFFFFFFFF)
-        data += b"abc\0" + words(1) + b"d\0\0\0" + words(2) + b"ef\0\0" + words(11, 12, 1, 13, 1, 14)
-        data += words(2, 0xFFFFFFFD, 2, 9)
+        data = self.ALL
         wanted = {"u": 4294967295, "h": -(2**63), "v": 2**64 - 2, "b": True, "c": -3}
         wanted.update(s={"case": 2, "side": -1}, f=b"abc", o=b"d", n=b"ef", p=[11, 12], l=[13], m=14)
         wanted.update(q=[{"case": -3}, {"case": 2, "side": 9}])

@@ -115,8 +115,8 @@ def none_cases():
 
 
 def is_refused_well(taken, found, left, number, met):
-    """Want of memory with the rows as they were, or the whole answer: each call takes memory, and so misses the first
-    growth, and it misses none past all of its own."""
+    """An allocation failure with the rows as they were, or the whole answer: each call takes memory, and so misses the
+    first growth, and it misses none past all of its own."""
     def is_well(told):
         answer, *after = answers_of(told)[1][-1 - len(found) - len(left) :]
         if answer == taken[1]:

@@ -105,6 +105,19 @@ fn contents(declarations: &mut Declarations) -> Result<(), Box<dyn Error>> {
     Ok(())
 }
 
+/// Where its fields begin, by a cursor that passes over what is inside them.
+fn fields(declarations: &mut Declarations) -> Result<(), Box<dyn Error>> {
+    let mut cursor = declarations.cursor("file", Limits::MOST, INPUT)?;
+    while let Some(part) = cursor.next().transpose()? {
+        if part.depth == 2 && part.role != Role::Content {
+            print!("{} at {}; ", String::from_utf8_lossy(cursor.name()), part.at);
+            cursor.skip_deeper(2)?;
+        }
+    }
+    println!("{} bytes", cursor.checked().used);
+    Ok(())
+}
+
 /// The value that the RFC gives, by its items.
 fn written(declarations: &mut Declarations) -> Result<(), Box<dyn Error>> {
     let items = [
@@ -167,6 +180,7 @@ fn main() -> Result<(), Box<dyn Error>> {
     print!("{lines}");
     println!("{} bytes", found.used);
     contents(&mut declarations)?;
+    fields(&mut declarations)?;
     written(&mut declarations)?;
     println!("{:?}", Declarations::read(b"struct a { int b; int b; };"));
     println!("{:?}", normalise(b"\0\0\0\x02ab\x80\0\0\x01c", 4));

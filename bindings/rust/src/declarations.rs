@@ -44,7 +44,13 @@ impl Checked {
     }
 }
 
-/// Declarations that were read. A check borrows them alone.
+/// Declarations that were read. A check borrows them alone, and writes to what they hold: they are `Send` and not
+/// `Sync`, so threads that share them take a lock.
+///
+/// ```compile_fail
+/// fn shared<T: Sync>() {}
+/// shared::<oncrpc::Declarations>();
+/// ```
 ///
 /// ```
 /// # use oncrpc::{Declarations, Limits, Reason};

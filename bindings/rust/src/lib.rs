@@ -37,6 +37,7 @@
 mod address;
 mod buffer;
 mod caller;
+mod cursor;
 mod declarations;
 mod fault;
 mod find;
@@ -57,6 +58,7 @@ mod sys;
 
 pub use address::{read_uaddr, write_uaddr};
 pub use caller::{Caller, Peer};
+pub use cursor::{Cursor, CursorFault};
 pub use declarations::{Checked, Declarations, Limits};
 pub use fault::{CheckFault, ReadFault, Reason, Refusal, TextFault, TextFaultKind};
 pub use find::FindFault;

@@ -80,6 +80,9 @@ numbers! {
     NO_SESSION = 31;
     OUTPUT_WAITS = 32;
     NO_CALLER = 33;
+    NO_PART = 34;
+    NO_CURSOR = 35;
+    ASTRAY = 36;
 
     BAD_BOOL = 1;
     BAD_NUMBERED = 2;
@@ -183,6 +186,13 @@ structs! {
     /// Declarations that were read, or none.
     #[derive(Debug)]
     oncrpc_declarations as Declarations {
+        at: *mut c_void,
+        live: bool,
+    }
+
+    /// A cursor over the parts of a value, or none.
+    #[derive(Debug)]
+    oncrpc_parts as PartsCursor {
         at: *mut c_void,
         live: bool,
     }
@@ -409,6 +419,38 @@ extern "C" {
         names_count: usize,
         outcome: *mut PartsOutcome,
     ) -> u32;
+
+    pub fn oncrpc_declarations_parts_start(
+        declarations: *mut Declarations,
+        name: *const u8,
+        name_count: usize,
+        depth: u32,
+        bytes: u32,
+        input: *const u8,
+        input_count: usize,
+        cursor: *mut PartsCursor,
+        outcome: *mut Outcome,
+    ) -> u32;
+
+    pub fn oncrpc_declarations_parts_next(
+        declarations: *mut Declarations,
+        cursor: *mut PartsCursor,
+        input: *const u8,
+        input_count: usize,
+        part: *mut ValuePart,
+        buffer: *mut u8,
+        buffer_count: usize,
+    ) -> u32;
+
+    pub fn oncrpc_declarations_parts_skip(
+        declarations: *mut Declarations,
+        cursor: *mut PartsCursor,
+        input: *const u8,
+        input_count: usize,
+        depth: u32,
+    ) -> u32;
+
+    pub fn oncrpc_parts_free(cursor: *mut PartsCursor);
 
     pub fn oncrpc_declarations_find(
         declarations: *mut Declarations,

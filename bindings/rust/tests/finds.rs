@@ -1,6 +1,6 @@
 //! One part by its path, numbers of parts, kinds and their members: the file of RFC 4506 section 7.
 
-use oncrpc::{Declarations, FindFault, Kind, KindFault, Limits, Reason, Refusal, Role, XdrType};
+use oncrpc::{CursorFault, Declarations, FindFault, Kind, KindFault, Limits, Reason, Refusal, Role, XdrType};
 
 const TEXT: &[u8] = b"enum filekind { TEXT = 0, DATA = 1, EXEC = 2 };
     union filetype switch (filekind kind) {
@@ -121,4 +121,58 @@ fn kinds_and_members() {
     let wanted = [("filekind", level), ("filetype", union), ("file", kind)];
     assert_eq!(types, wanted.map(|(name, kind)| Ok((name.to_string(), kind))));
     assert_eq!(Declarations::read(b"const SIZE = 4;").unwrap().types().count(), 0);
+}
+
+#[test]
+fn each_part_by_a_cursor() {
+    let mut file = declared();
+    let wanted: Vec<_> = {
+        let (_, parts) = file.parts("file", Limits::MOST, INPUT).unwrap();
+        parts
+            .iter()
+            .map(|part| (part.at, part.bytes.to_vec(), part.name.to_vec(), part.depth, part.role))
+            .collect()
+    };
+    let mut cursor = file.cursor("file", Limits::MOST, INPUT).unwrap();
+    let mut found = Vec::new();
+    while let Some(part) = cursor.next().transpose().unwrap() {
+        found.push((
+            part.at,
+            part.bytes.to_vec(),
+            cursor.name().to_vec(),
+            part.depth,
+            part.role,
+        ));
+    }
+    assert!(cursor.next().is_none());
+    assert_eq!(found, wanted);
+}
+
+#[test]
+fn a_name_longer_than_its_room() {
+    let name = "n".repeat(65);
+    let mut types = Declarations::read(format!("struct wide {{ int {name}; int b; }};").as_bytes()).unwrap();
+    let mut cursor = types.cursor("wide", Limits::MOST, b"\0\0\0\x01\0\0\0\x02\0").unwrap();
+    assert!(cursor.checked().more_follows);
+    let mut names = Vec::new();
+    while let Some(part) = cursor.next().transpose().unwrap() {
+        names.push((part.depth, String::from_utf8(cursor.name().to_vec()).unwrap()));
+    }
+    assert_eq!(names, [(1, String::new()), (2, name), (2, "b".to_string())]);
+    assert_eq!(CursorFault::NoMemory.to_string(), "out of memory");
+    assert_eq!(CursorFault::Unknown(36).to_string(), "the unknown status 36");
+}
+
+#[test]
+fn what_is_deeper_is_passed_over() {
+    let mut file = declared();
+    let mut cursor = file.cursor("file", Limits::MOST, INPUT).unwrap();
+    assert_eq!(cursor.checked().used, 48);
+    let places: Vec<_> = cursor.by_ref().take(4).map(|part| part.unwrap().at).collect();
+    assert_eq!((places, cursor.name()), (vec![0, 0, 4, 16], b"type".as_slice()));
+    cursor.skip_deeper(2).unwrap();
+    assert_eq!(cursor.next().unwrap().unwrap().at, 28);
+    assert_eq!(cursor.name(), b"owner");
+    cursor.skip_deeper(1).unwrap();
+    assert!(cursor.next().is_none());
 }

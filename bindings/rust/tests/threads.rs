@@ -33,3 +33,16 @@ fn each_handle() -> Result<(), Box<dyn Error>> {
     thread::spawn(move || drop((read, registry, records))).join().expect("no thread panics");
     Ok(())
 }
+
+#[test]
+fn a_cursor_goes_on_elsewhere() -> Result<(), Box<dyn Error>> {
+    let mut read = Declarations::read(b"struct pair { int left; bool right; };")?;
+    let mut cursor = read.cursor("pair", Limits::MOST, &[0, 0, 0, 5, 0, 0, 0, 1])?;
+    let first = cursor.next().transpose()?.map(|part| part.at);
+    let others = thread::scope(|scope| {
+        let thread = scope.spawn(move || cursor.map(|part| part.map(|it| it.at)).collect::<Result<Vec<_>, _>>());
+        thread.join().expect("no thread panics")
+    });
+    assert_eq!((first, others?), (Some(0), vec![0, 4]));
+    Ok(())
+}

@@ -3,8 +3,9 @@
 //! Each export answers a status, and reports the rest through what the caller lends. None wants anything but pointers
 //! that lead where their counts say. What it does is the function that it calls, proved in the crate of that function.
 //!
-//! - `values`: values by their declarations, and records marked anew. `paths`: one part of a value. `kinds`: what was
-//!   declared. `json`: values as JSON. `dialect`: declarations in rpcgen's dialect. `records`: a stream of records.
+//! - `values`: values by their declarations, and records marked anew. `paths`: one part of a value. `cursors`: its
+//!   parts one by one. `kinds`: what was declared. `json`: values as JSON. `dialect`: declarations in rpcgen's dialect.
+//!   `records`: a stream of records.
 //! - `calls`, `replies`, `credentials`: messages. `registry`: a registry that a program of C keeps. `sessions`: the
 //!   connections over which it serves that. `addresses`: universal addresses. `version`: that of the library.
 #![tactic(auto)]
@@ -12,6 +13,7 @@
 mod addresses;
 mod calls;
 mod credentials;
+mod cursors;
 mod dialect;
 mod json;
 mod kinds;
@@ -26,6 +28,10 @@ mod version;
 pub use addresses::{oncrpc_uaddr_read, oncrpc_uaddr_write};
 pub use calls::{oncrpc_call_read, oncrpc_call_write};
 pub use credentials::{oncrpc_auth_sys_read, oncrpc_auth_sys_write};
+pub use cursors::{
+    oncrpc_declarations_parts_next, oncrpc_declarations_parts_skip,
+    oncrpc_declarations_parts_start, oncrpc_parts_free,
+};
 pub use dialect::oncrpc_declarations_read_dialect;
 pub use json::{oncrpc_declarations_from_json, oncrpc_declarations_to_json};
 pub use kinds::{

@@ -13,3 +13,4 @@ mod part;
 
 pub use finding::find_by_declarations;
 pub use number::{PartNumber, number_by_declarations};
+pub use part::part_alone;

@@ -6,3 +6,4 @@ pub mod Only
 pub mod File
 pub mod Entries
 pub mod Listed
+pub mod GoneOver

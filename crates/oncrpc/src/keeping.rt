@@ -2,7 +2,7 @@
 ghost use Rattle.std.specs.Prelude.{◌≤◌};
 
 use oncrpc_answers::{Failure, report};
-use oncrpc_sessions::{Bounds, Place, Sockets, Unheard};
+use oncrpc_sessions::{Bounds, Place, Shortage, Sockets, Unheard};
 use oncrpc_tasks::say_line;
 use oncrpc_words::KeepTask;
 use registry_rows::PROGRAM;
@@ -33,6 +33,7 @@ pub fn keep<O: Sink, F: Sink>(
         Ok(begun) => begun,
         Err(why) => return report_unheard(alloc, why, what, faults),
     };
+    print_shortage(alloc, what, faults);
     if let Err(failure) = print_begun(alloc, what, sockets.port(), output) {
         return report(failure, faults);
     }
@@ -117,6 +118,16 @@ fn bounds_of(what: &KeepTask) -> Bounds {
         connections: what.connections as usize,
         idle: Duration::from_secs(what.idle as u64),
         trusts_remote: what.insecure,
+    }
+}
+
+// A line where fewer files may be open than connections need, where it can be written.
+fn print_shortage<F: Sink>(alloc: Global, what: &KeepTask, faults: &mut F) {
+    let Some(shortage) = Shortage::of(bounds_of(what)) else {
+        return;
+    };
+    if let Ok(line) = shortage.line(alloc) {
+        let _ = write_whole(faults, line.as_bytes());
     }
 }
 

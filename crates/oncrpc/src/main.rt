@@ -7,7 +7,8 @@
 //! - `reaching` makes the call, at the port that a registry tells (`ports`), and `timed` waits no longer than that;
 //!   `unreached` says why there is no answer.
 //! - `watching` reads what peers said, by what the `installed` texts declare.
-//! - `network` asks a registry, and serves one to so many clients; `keeping` serves one as long as the program runs.
+//! - `network` asks a registry, over UDP by a `repeating` port, and serves one to so many clients; `keeping` serves one
+//!   as long as the program runs.
 #![tactic(auto)]
 
 mod arguments;
@@ -20,6 +21,7 @@ mod network;
 mod pinging;
 mod ports;
 mod reaching;
+mod repeating;
 mod run;
 mod timed;
 mod unmade;

@@ -2,6 +2,7 @@
 ghost use Rattle.std.specs.Prelude.{◌≤◌};
 
 use crate::reaching::{addresses, connect, open_port};
+use crate::repeating::RepeatingPort;
 use crate::timed::{TimedReader, TimedWriter, Until};
 use crate::unreached::say_late;
 use oncrpc_answers::{Failure, report};
@@ -16,6 +17,10 @@ use std::io;
 use std::net::SocketAddr;
 use xdr_io::{MemorySink, Sink, write_whole};
 
+/// For how many seconds an answer over UDP is waited for where no time is named: a datagram may be lost, or come from
+/// another address than the one that was asked.
+const DATAGRAM_SECONDS: u32 = 10;
+
 /// Asks a registry for its rows, over TCP or over UDP, and gives the exit status.
 pub fn info<O: Sink, F: Sink>(
     rt: &HostRuntime,
@@ -25,14 +30,15 @@ pub fn info<O: Sink, F: Sink>(
 ) -> u8
     ensures { result ≤ 4 }
 {
-    let (places, until) = match begin(rt, what) {
+    let seconds = seconds_of(what);
+    let (places, until) = match begin(rt, what, seconds) {
         Ok(begun) => begun,
         Err(error) => return report_unconnected(&error, faults),
     };
     let mut said = [0u8; 256];
     let mut line = MemorySink::new(&mut said, 256, None);
     let (status, is_late) = info_at(&places, what, until, output, &mut line);
-    match what.timeout {
+    match seconds {
         Some(seconds) if status == 3 && is_late => say_late(rt.alloc(), seconds, faults),
         _ => {
             let _ = write_whole(faults, line.written());
@@ -41,10 +47,22 @@ pub fn info<O: Sink, F: Sink>(
     }
 }
 
+// For how many seconds an answer is waited for, where that has an end.
+fn seconds_of(what: &InfoTask) -> Option<u32> {
+    match what.timeout {
+        None if what.udp => Some(DATAGRAM_SECONDS),
+        seconds => seconds,
+    }
+}
+
 // The addresses of the host, and then until when is waited: the look-up of its name is not counted.
-fn begin<'a>(rt: &'a HostRuntime, what: &InfoTask) -> io::Result<(Vec<SocketAddr>, Until<'a>)> {
+fn begin<'a>(
+    rt: &'a HostRuntime,
+    what: &InfoTask,
+    seconds: Option<u32>,
+) -> io::Result<(Vec<SocketAddr>, Until<'a>)> {
     let places = addresses(rt, &what.host, what.port)?;
-    Ok((places, Until::start(rt, what.timeout)?))
+    Ok((places, Until::start(rt, seconds)?))
 }
 
 // The exit status of what one of these addresses answers, and whether it failed because the time was up.
@@ -85,7 +103,7 @@ fn info_by_connection<O: Sink, F: Sink>(
     (status, reader.is_late() || writer.is_late())
 }
 
-// The same over the first address to which there is a way for datagrams.
+// The same over the first address to which there is a way for datagrams, once a second as long as there is time.
 fn info_by_datagram<O: Sink, F: Sink>(
     places: &[SocketAddr],
     vers: u32,
@@ -95,13 +113,19 @@ fn info_by_datagram<O: Sink, F: Sink>(
 ) -> (u8, bool)
     ensures { result.0 ≤ 4 }
 {
-    let mut port = match open_port(places, until, true) {
+    let mut port = match open_repeating(places, until) {
         Ok(port) => port,
         Err(error) => return (report_unconnected(&error, faults), until.is_why(&error)),
     };
     let alloc = until.runtime().alloc();
     let status = info_datagram(alloc, &mut port, output, faults, vers);
     (status, port.is_late())
+}
+
+// A port that asks again, to the first address to which there is a way for datagrams.
+fn open_repeating<'a>(places: &[SocketAddr], until: Until<'a>) -> io::Result<RepeatingPort<'a>> {
+    let port = open_port(places, until)?;
+    Ok(RepeatingPort::over(until.runtime().alloc(), port)?)
 }
 
 // The status where there is no way to the host: 4 where memory was refused, else 3.

@@ -116,7 +116,7 @@ pub fn stream_to(places: &[SocketAddr], until: Until<'_>) -> Result<TcpStream, U
 /// A port for datagrams, from which one is sent again after a second, to the first of these places to which there is a
 /// way, or why there is none.
 pub fn port_to<'a>(places: &[SocketAddr], until: Until<'a>) -> Result<TimedPort<'a>, Unreached> {
-    match open_port(places, until, false) {
+    match open_port(places, until) {
         Ok(port) => Ok(port),
         Err(error) => Err(Unreached::by(&error, until)),
     }
@@ -143,14 +143,10 @@ fn connect_to(place: SocketAddr, until: Until<'_>) -> io::Result<TcpStream> {
 }
 
 /// A port for datagrams to the first of these places to which there is a way.
-pub fn open_port<'a>(
-    places: &[SocketAddr],
-    until: Until<'a>,
-    once: bool,
-) -> io::Result<TimedPort<'a>> {
+pub fn open_port<'a>(places: &[SocketAddr], until: Until<'a>) -> io::Result<TimedPort<'a>> {
     let mut refused = io::Error::from(io::ErrorKind::NotFound);
     for place in places {
-        match TimedPort::connect(until, *place, once) {
+        match TimedPort::connect(until, *place) {
             Ok(port) => return Ok(port),
             Err(error) => refused = error,
         }

@@ -6,7 +6,7 @@ use crate::files::FileOpener;
 use crate::keeping::keep;
 use crate::network::{info, serve};
 use crate::pinging::ping;
-use crate::watching::messages;
+use crate::watching::{capture, messages};
 use oncrpc_answers::{Failure, Task, TypesTask, ValueTask, report};
 use oncrpc_encode::encode_over;
 use oncrpc_tasks::task_over;
@@ -27,6 +27,7 @@ pub fn run(rt: &HostRuntime) -> u8
         Ok(Request::Encode(what)) => encode(rt, &what, &mut output, &mut faults),
         Ok(Request::Types(what)) => types(rt, &what, &mut output, &mut faults),
         Ok(Request::Messages(what)) => messages(rt, what, &mut output, &mut faults),
+        Ok(Request::Capture(what)) => capture(rt, what, &mut output, &mut faults),
         Ok(Request::Info(what)) => info(rt, &what, &mut output, &mut faults),
         Ok(Request::Call(what)) => call(rt, &what, &mut output, &mut faults),
         Ok(Request::Ping(what)) => ping(rt, &what, &mut output, &mut faults),

@@ -195,12 +195,11 @@ impl Sink for TimedWriter<'_> {
     }
 }
 
-/// A client's port over UDP. After a send it waits for a second, or for longer where it sends no more than once.
+/// A client's port over UDP. After a send it waits for a second.
 #[derive(Drop)]
 pub struct TimedPort<'a> {
     until: Until<'a>,
     turn: Until<'a>,
-    once: bool,
     socket: UdpSocket,
     is_closed: bool,
     is_late: bool,
@@ -208,7 +207,7 @@ pub struct TimedPort<'a> {
 
 impl<'a> TimedPort<'a> {
     /// Takes a free port, whose peer is at this address.
-    pub fn connect(until: Until<'a>, peer: SocketAddr, once: bool) -> io::Result<Self> {
+    pub fn connect(until: Until<'a>, peer: SocketAddr) -> io::Result<Self> {
         let socket = match peer {
             SocketAddr::V4(_) => UdpSocket::bind(until.rt, (Ipv4Addr::UNSPECIFIED, 0))?,
             SocketAddr::V6(_) => UdpSocket::bind(until.rt, (Ipv6Addr::UNSPECIFIED, 0))?,
@@ -217,7 +216,6 @@ impl<'a> TimedPort<'a> {
         Ok(TimedPort {
             until,
             turn: until,
-            once,
             socket,
             is_closed: false,
             is_late: false,
@@ -259,11 +257,7 @@ impl<'a> TimedPort<'a> {
     }
 
     fn send_in_time(&mut self, datagram: &[u8]) -> io::Result<usize> {
-        self.turn = if self.once {
-            self.until
-        } else {
-            self.until.within(1)?
-        };
+        self.turn = self.until.within(1)?;
         self.socket.send(datagram)
     }
 }

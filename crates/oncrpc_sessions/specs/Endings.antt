@@ -1,7 +1,9 @@
--- The line of a connection that has ended, of `serve --verbose` (this project's own).
+-- The line of a connection that has ended, of `serve --verbose`, and why it ended (this project's own).
 use Rattle.std.specs.Prelude.{ℕ, ◌+◌, List, ◌++◌, codes, decimal}
 use Rattle.std.specs.Net.Text.{socket_text}
 use Rattle.rpc_record.specs.declared.fault.RecordFault.TheVariants as fault
+use Rattle.registry_sessions.specs.declared.fault.SessionFault.{SessionFault}
+use Rattle.registry_sessions.specs.declared.fault.SessionFault.TheVariants as session
 use Rattle.oncrpc_sessions.specs.declared.ending.Ending.{Ending}
 use Rattle.oncrpc_sessions.specs.declared.ending.Why.{Why}
 use Rattle.oncrpc_sessions.specs.declared.ending.Why.TheVariants as why
@@ -32,3 +34,8 @@ outcome_text records replies (why.Fault fault.NoMemory) = codes "NoMemory\n"
 -- the whole line (own)
 abbrev pub ending_line : Ending → List ℕ
 ending_line e = connection_text e.number e.whence ++ outcome_text e.records e.replies e.why
+
+-- why a connection ended whose session has a fault (own)
+abbrev pub why_of : SessionFault → Why
+why_of (session.Record f) = why.Fault f
+why_of session.NoMemory = why.Fault fault.NoMemory

@@ -1,11 +1,15 @@
 //! What a registry's sockets hold at most.
 ghost use Rattle.std.specs.Prelude.{◌≡◌, nat_lt};
-ghost use Rattle.oncrpc_sessions.specs.Places.{local_places, most_open};
+ghost use Rattle.oncrpc_sessions.specs.Places.{local_places, most_files, most_open};
 
 use std::time::Duration;
 
 /// How many connections may be open at a time over the Unix socket.
 const LOCAL_PLACES: usize = 16;
+
+/// How many files may have to be open beside the connections over TCP: 16 over the Unix socket, the three streams, and
+/// the wait. Then three sockets that listen, one by which an address is found, and eight that were open before.
+const OTHER_FILES: usize = 32;
 
 /// What a registry's sockets hold at most.
 #[derive(Clone, Copy, Debug, PartialEq, Eq)]
@@ -25,6 +29,13 @@ impl Bounds {
         ensures { result ≡ most_open self.now.connections }
     {
         self.connections.saturating_add(LOCAL_PLACES)
+    }
+
+    /// How many files may have to be open at a time: 32 more than connections over TCP, and at most 2^64 - 1.
+    pub fn files(&self) -> usize
+        ensures { result ≡ most_files self.now.connections }
+    {
+        self.connections.saturating_add(OTHER_FILES)
     }
 }
 

@@ -1,6 +1,6 @@
 //! What became of a connection.
 ghost use Rattle.std.specs.Prelude.{◌≡◌, IfOk, string_bytes};
-ghost use Rattle.oncrpc_sessions.specs.Endings.{connection_text, outcome_text, ending_line};
+ghost use Rattle.oncrpc_sessions.specs.Endings.{connection_text, outcome_text, ending_line, why_of};
 ghost use Rattle.oncrpc_sessions.specs.declared.whence.Whence.TheVariants as over;
 
 use crate::whence::Whence;
@@ -88,6 +88,8 @@ fn outcome_text(alloc: Global, records: u64, replies: u64, why: Why) -> Result<S
 }
 
 impl From<SessionFault> for Why {
+    ghost from_gives = { λ fault why. why ≡ why_of fault };
+
     fn from(fault: SessionFault) -> Why {
         match fault {
             SessionFault::Record(fault) => Why::Fault(fault),

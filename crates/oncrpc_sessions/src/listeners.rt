@@ -63,11 +63,15 @@ impl Listeners {
         Ok(self.tcp.local_addr()?.port())
     }
 
-    /// Has a poll tell when a connection comes: over TCP by the first token, over the Unix socket by the second.
-    pub fn register(&mut self, registry: &Registry, tcp: Token, local: Token) -> io::Result<()> {
-        registry.register(&mut self.tcp, tcp, Interest::READABLE)?;
+    /// Has a poll tell when a connection comes over TCP.
+    pub fn register(&mut self, registry: &Registry, token: Token) -> io::Result<()> {
+        registry.register(&mut self.tcp, token, Interest::READABLE)
+    }
+
+    /// The same at the Unix socket, where there is one.
+    pub fn register_local(&mut self, registry: &Registry, token: Token) -> io::Result<()> {
         match &mut self.local {
-            Some(listener) => registry.register(listener, local, Interest::READABLE),
+            Some(listener) => registry.register(listener, token, Interest::READABLE),
             None => Ok(()),
         }
     }

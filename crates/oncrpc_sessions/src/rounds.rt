@@ -12,16 +12,16 @@ use crate::listeners::{Accepted, Listeners};
 use crate::stream::Stream;
 use crate::unheard::{Place, Unheard, heard};
 use crate::whence::Whence;
-use mio::{Events, Poll, Token};
+use mio::{Events, Poll, Registry, Token};
 use registry_sessions::SessionTable;
 use rpc_directory::Directory;
 use std::alloc::Global;
 use std::fs::Files;
 use std::hash::BuildHasher;
-use std::io;
 use std::net::{Net, SocketAddr};
 use std::rt::Clock;
 use std::time::{Duration, Instant};
+use std::{fs, io};
 
 const LISTENER: Token = Token(usize::MAX);
 
@@ -34,6 +34,22 @@ const MOST_AT_ONCE: u32 = 64;
 
 /// For how many seconds a round waits at most where a client is there, and how often idle ones are looked for.
 const LONGEST_WAIT: u64 = 1;
+
+/// Listens at a path, too, and has the poll watch it. Where it cannot watch it, no file is left there.
+fn listen_locally<R: Net + Files>(
+    rt: &R,
+    alloc: Global,
+    path: &str,
+    listeners: &mut Listeners,
+    registry: &Registry,
+) -> Result<(), Unheard> {
+    heard(Place::Local, listeners.listen_at(rt, alloc, path))?;
+    let watched = listeners.register_local(registry, LOCAL_LISTENER);
+    if watched.is_err() {
+        let _gone = fs::remove_file(rt, path);
+    }
+    heard(Place::Waiting, watched)
+}
 
 /// A registry's sockets: those that listen, one for datagrams, and those of the clients. Readiness is told once: what a
 /// socket was ready for stays noted until a call would block.
@@ -53,8 +69,9 @@ pub struct Sockets {
 
 impl Sockets {
     /// Binds both sockets at this address, whose port is 0 for any free one, and a Unix socket at a path where one is
-    /// given. That is the last, so that a port that is taken leaves the path as it is. What becomes of connections is
-    /// kept for `endings` where it `is_told`. The error says what could not be had, and why.
+    /// given. That is the last, so that a port that is taken leaves the path as it is. Where the Unix socket cannot be
+    /// waited for, its file is removed. What becomes of connections is kept for `endings` where it `is_told`. The error
+    /// says what could not be had, and why.
     pub fn bind<R: Net + Files + Clock>(
         rt: &R,
         alloc: Global,
@@ -74,13 +91,12 @@ impl Sockets {
         bound.set_port(port);
         let over_udp = Place::Udp(bound);
         let mut datagrams = heard(over_udp, Datagrams::bind(rt, alloc, bound, trusts_remote))?;
-        if let Some(path) = local {
-            heard(Place::Local, listeners.listen_at(rt, alloc, path))?;
-        }
         let registry = poll.registry();
-        let noted = listeners.register(registry, LISTENER, LOCAL_LISTENER);
-        heard(Place::Waiting, noted)?;
+        heard(Place::Waiting, listeners.register(registry, LISTENER))?;
         heard(Place::Waiting, datagrams.register(registry, DATAGRAMS))?;
+        if let Some(path) = local {
+            listen_locally(rt, alloc, path, &mut listeners, registry)?;
+        }
         Ok(Sockets {
             alloc,
             poll,

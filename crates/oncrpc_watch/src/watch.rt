@@ -29,7 +29,7 @@ pub struct Watch<'a> {
 }
 
 impl<'a> Watch<'a> {
-    ghost use Rattle.std.specs.Prelude.{◌≡◌, ℕ, List, ◌∷◌, IfOk, OnOk};
+    ghost use Rattle.std.specs.Prelude.{◌≡◌, ℕ, List, ◌∷◌, true, IfOk, OnOk};
     ghost use Rattle.oncrpc_messages.specs.Messages.{SaysReply};
     ghost use Rattle.oncrpc_watch.specs.Counted.{refused};
     ghost use Rattle.oncrpc_watch.specs.Heard.{Heard};
@@ -97,6 +97,16 @@ impl<'a> Watch<'a> {
     /// How many more calls can be noted before one is forgotten.
     pub fn spare(&self) -> usize {
         self.table.spare()
+    }
+
+    /// Whether a record of this way is a reply whose call is known.
+    pub fn is_asked(&self, way: u32, record: &[u8]) -> bool
+        ensures { result ≡ true → (xid : ℕ) × SaysReply xid record.now }
+    {
+        match reply_xid(record) {
+            Some(xid) => self.table.find(way, xid).is_some(),
+            None => false,
+        }
     }
 
     /// Whether a record of this way is a reply whose call is not known.

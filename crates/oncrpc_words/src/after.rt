@@ -1,7 +1,7 @@
 //! What help says behind the options: the output of each command, its statuses, and examples with what they print.
 pub use crate::after_calls::{AFTER_CALL, AFTER_PING};
 pub use crate::after_network::{AFTER_INFO, AFTER_SERVE};
-pub use crate::after_watching::AFTER_MESSAGES;
+pub use crate::after_watching::{AFTER_CAPTURE, AFTER_MESSAGES};
 
 /// The statuses of each command, and the lines on standard error that go with them.
 pub const AFTER_ALL: &str = "Exit status:

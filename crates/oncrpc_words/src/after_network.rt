@@ -16,14 +16,14 @@ port', and then a line for each row. An answer without rows is the line
                          over TCP: no whole record came
   Truncated, NotAReply, BadStatus, BadAuth, Rest
                          what came is no reply
-  WrongXid NUMBER        what came is a reply to another call
+  WrongXid NUMBER        over TCP: what came is a reply to another call
   WHY at N               the results begin with no list of rows; 'oncrpc help
                          check' has WHY, and N is the place in them
 
 Lines on standard error: 'socket fault' where the host is not found or no
 connection is accepted, 'read fault' where no answer could be read, also where
-nobody listens at a port of UDP. With --timeout it is 'no answer within SECONDS
-seconds' where none came in time.
+nobody listens at a port of UDP. With --timeout, and over UDP, it is 'no answer
+within SECONDS seconds' where none came in time.
 
 Exit status:
   0  the rows are printed
@@ -60,6 +60,10 @@ that came from PEER has a line on standard error once it has ended:
   connection K from PEER: Idle it made no call and took no reply for SECONDS
 and the lines below from 'TooLong at N' on, but for TooManyReads. Where as many
 are open as may be, others wait; the socket of --local has 16 places of its own.
+
+The limit on open files ('ulimit -n') has to be above --connections by 32. Where
+it is lower, it goes on behind a line on standard error:
+  warning: the limit on open files is L, and N may be needed
 
 With --count C, after 'listening on 127.0.0.1 PORT', it prints a line for each
 connection K, from 1, once it has ended, and after them a line for each datagram

@@ -1,4 +1,4 @@
-//! What help says behind the options of the command that reads what peers said.
+//! What help says behind the options of the commands that read what peers said.
 
 /// What `messages` prints, its statuses and an example of it.
 pub const AFTER_MESSAGES: &str =
@@ -30,3 +30,29 @@ Example:
      head -c 20 /dev/zero) | oncrpc messages
     call 7 100000.2.0 NULL AUTH_NONE
     calls 1 replies 0 others 0 refused 0 unjudged 0 unasked 0";
+
+/// What `capture` prints, and its statuses.
+pub const AFTER_CAPTURE: &str =
+    "Output: the lines of 'oncrpc messages' for what a file of captured packets carries
+over UDP and TCP, each message behind the number of the packet that ends it, its
+time, and who sent it to whom. FILE is - for standard input. With --stats there are
+counts of procedures, of reasons and the slowest replies in place of messages.
+  missing N bytes                 the capture does not have them
+  unfinished N bytes              they are of a record whose end is not there
+  passed N bytes                  so many stand before the next record that is found
+  dropped N bytes                 so many were held, and all connections held too much
+  unread WHY                      the packet is not read: it is a fragment, is cut, or
+                                  its link or a header of it is none that is read
+  refused WHY at N                the message is refused at its byte N
+  record refused TooLong at 0     a header is that of no record
+  file refused WHY at N           the file is none, from its byte N on
+
+Without --port what looks like RPC is read, and over UDP a reply only to a call that
+was seen. With --port all that goes from or to such a port is.
+
+Exit status:
+  0  nothing is refused
+  1  something is
+  2  words or declarations are refused
+  3  a read or a write failed
+  4  memory was refused";

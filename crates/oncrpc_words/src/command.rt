@@ -1,7 +1,7 @@
 //! The commands and their options, as `clap` reads them.
 use super::tables::{
-    OF_CALL, OF_CHECK, OF_ENCODE, OF_INFO, OF_MESSAGES, OF_PING, OF_RECORDS, OF_SERVE, OF_SHOW,
-    OF_TYPES, Taken, Word,
+    OF_CALL, OF_CAPTURE, OF_CHECK, OF_ENCODE, OF_INFO, OF_MESSAGES, OF_PING, OF_RECORDS, OF_SERVE,
+    OF_SHOW, OF_TYPES, Taken, Word,
 };
 use super::{after, help};
 use clap::{Arg, ArgAction, Command, value_parser};
@@ -52,6 +52,7 @@ fn commands<'a>(alloc: Global) -> Result<Vec<Command<'a>>, AllocError> {
     commands.push(types(alloc)?)?;
     commands.push(records(alloc)?)?;
     commands.push(messages(alloc)?)?;
+    commands.push(capture(alloc)?)?;
     commands.push(info(alloc)?)?;
     commands.push(call(alloc)?)?;
     commands.push(ping(alloc)?)?;
@@ -98,6 +99,16 @@ fn messages<'a>(alloc: Global) -> Result<Command<'a>, AllocError> {
         help::MESSAGES,
         after::AFTER_MESSAGES,
         &OF_MESSAGES,
+    )
+}
+
+fn capture<'a>(alloc: Global) -> Result<Command<'a>, AllocError> {
+    part(
+        alloc,
+        "capture",
+        help::CAPTURE,
+        after::AFTER_CAPTURE,
+        &OF_CAPTURE,
     )
 }
 

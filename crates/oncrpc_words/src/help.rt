@@ -36,11 +36,23 @@ pub const RECORDS: &str = "Writes each record of standard input as one fragment"
 /// What `messages` does.
 pub const MESSAGES: &str = "Prints the calls and replies of standard input and judges them";
 
+/// What `capture` does.
+pub const CAPTURE: &str = "Prints the calls and replies of a capture and judges them";
+
 /// The file with the other direction.
 pub const REPLIES: &str = "The file with the other direction of the connection";
 
 /// Messages as JSON.
 pub const JSON_MESSAGES: &str = "Print an object of JSON on a line for each message";
+
+/// The file of captured packets.
+pub const CAPTURED: &str = "A file of captured packets, pcap or pcapng, or - for standard input";
+
+/// The ports of a capture.
+pub const PORTS: &str = "A port whose traffic is RPC, in place of what looks like it";
+
+/// Counts in place of messages.
+pub const STATS: &str = "Print counts and the slowest replies in place of messages";
 
 /// What `info` does.
 pub const INFO: &str = "Asks the registry of a host for its rows and prints them";
@@ -94,7 +106,8 @@ pub const DATAGRAMS: &str =
     "How many datagrams are answered after C connections, 0 to 4294967295, else none";
 
 /// The option for asking by a datagram.
-pub const UDP: &str = "Use UDP (one datagram) instead of TCP";
+pub const UDP: &str =
+    "Use UDP instead of TCP; the datagram is sent once more after each second without a reply";
 
 /// The word for a procedure.
 pub const PROCEDURE: &str = "PROGRAM.VERSION.PROCEDURE, each a number or a name that FILE declares";
@@ -119,7 +132,7 @@ pub const TIMEOUT: &str = "How long an answer may take, 1 to 4294967295 seconds"
 
 /// The option for the time that an answer of a registry may take.
 pub const WAITED: &str =
-    "How long an answer may take, 1 to 4294967295 seconds; else without an end";
+    "How long an answer may take, 1 to 4294967295 seconds; else without an end, over UDP 10";
 
 /// The option for the number of a call.
 pub const XID: &str = "The number of the call, 0 to 4294967295; else one that the clock makes";

@@ -21,7 +21,7 @@ mod words;
 
 pub use fault::{WordsFault, no_memory, print_words_fault};
 pub use request::{
-    CallTask, Caller, InfoTask, KeepTask, MessagesTask, Peer, PingTask, Printing, Request,
-    ServeTask,
+    CallTask, Caller, CaptureTask, InfoTask, KeepTask, MessagesTask, Peer, PingTask, Printing,
+    Request, ServeTask,
 };
 pub use words::read_words;

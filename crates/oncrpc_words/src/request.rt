@@ -13,6 +13,8 @@ pub enum Request {
     Types(TypesTask),
     /// Print the messages of a stream of records.
     Messages(MessagesTask),
+    /// Print the messages of a capture.
+    Capture(CaptureTask),
     /// Print the rows of a registry.
     Info(InfoTask),
     /// Call a procedure of a server, and print its result.
@@ -34,6 +36,21 @@ pub struct MessagesTask {
     pub replies: Option<String>,
     /// Whether each message is a line of JSON.
     pub json: bool,
+}
+
+/// A capture to be read.
+#[derive(PartialEq, Eq, Drop)]
+pub struct CaptureTask {
+    /// The file, or `-` for the input.
+    pub file: String,
+    /// The texts that declare programs.
+    pub types: Texts,
+    /// The ports whose traffic is RPC. Without any it is what looks like it.
+    pub ports: Vec<u16>,
+    /// Whether each message is a line of JSON.
+    pub json: bool,
+    /// Whether counts are printed in place of messages.
+    pub stats: bool,
 }
 
 /// A registry that is asked for its rows.

@@ -95,6 +95,17 @@ pub const OF_MESSAGES: [Word; 5] = [
     Word::Flag("json", help::JSON_MESSAGES),
 ];
 
+/// The words of `capture`.
+pub const OF_CAPTURE: [Word; 7] = [
+    Word::Placed("file", "FILE", help::CAPTURED, Taken::Text),
+    Word::Repeated("types", "FILE", help::TYPES, Taken::Text, &[]),
+    Word::Beside("dialect", "DIALECT", help::DIALECT, Taken::Dialect, "types"),
+    Word::Repeated("define", "NAME", help::DEFINE, Taken::Text, &["dialect"]),
+    Word::Repeated("port", "N", help::PORTS, Taken::Port, &[]),
+    Word::Flag("json", help::JSON_MESSAGES),
+    Word::Flag("stats", help::STATS),
+];
+
 /// The words of `info`.
 pub const OF_INFO: [Word; 5] = [
     Word::Placed("host", "HOST", help::HOST, Taken::Text),

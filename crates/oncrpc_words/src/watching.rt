@@ -1,5 +1,5 @@
-//! What the words of `messages` ask for.
-use super::request::MessagesTask;
+//! What the words of `messages` and `capture` ask for.
+use super::request::{CaptureTask, MessagesTask};
 use super::words::texts;
 use clap::ArgMatches;
 use std::alloc::{AllocError, Global};
@@ -15,4 +15,26 @@ pub fn messages_task(alloc: Global, options: &ArgMatches<'_>) -> Result<Messages
         replies,
         json: options.get_flag("json"),
     })
+}
+
+/// The capture that is to be read.
+pub fn capture_task(alloc: Global, options: &ArgMatches<'_>) -> Result<CaptureTask, AllocError> {
+    Ok(CaptureTask {
+        file: String::from_str(alloc, options.get_str("file").unwrap_or(""))?,
+        types: texts(alloc, options)?,
+        ports: ports(alloc, options)?,
+        json: options.get_flag("json"),
+        stats: options.get_flag("stats"),
+    })
+}
+
+// The ports, each of which clap has taken as one.
+fn ports(alloc: Global, options: &ArgMatches<'_>) -> Result<Vec<u16>, AllocError> {
+    let mut ports = Vec::new(alloc);
+    for value in options.get_strs("port").unwrap_or(&[]) {
+        if let Ok(port) = value.parse::<u16>() {
+            ports.push(port)?;
+        }
+    }
+    Ok(ports)
 }

@@ -6,7 +6,7 @@ use super::calls::{call_task, ping_task};
 use super::command::{BYTES, CONNECTIONS, DEPTH, IDLE, VERS, command};
 use super::fault::{Misfit, WordsFault, fault_of, misfit_fault, no_memory};
 use super::request::{InfoTask, KeepTask, Request, ServeTask};
-use super::watching::messages_task;
+use super::watching::{capture_task, messages_task};
 use clap::{ArgMatches, Error};
 use oncrpc_answers::{Dialect, JsonTask, RecordsTask, Task, Texts, TypesTask, ValueTask};
 use std::alloc::{AllocError, Global};
@@ -85,6 +85,7 @@ fn asked(alloc: Global, name: &str, options: &ArgMatches<'_>) -> Result<Request,
         "encode" => Ok(Request::Encode(value_task(alloc, options)?)),
         "types" => Ok(Request::Types(types_task(alloc, options)?)),
         "messages" => Ok(Request::Messages(messages_task(alloc, options)?)),
+        "capture" => Ok(Request::Capture(capture_task(alloc, options)?)),
         "info" => Ok(Request::Info(info_task(alloc, options)?)),
         "ping" => Ok(Request::Ping(ping_task(alloc, options)?)),
         _ => Ok(Request::Offline(Task::Records(records_task(options)))),

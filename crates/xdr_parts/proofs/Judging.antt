@@ -91,7 +91,7 @@ spelled schema well sound t l b v p range o =
     ((whole_exactly schema.kinds t l b v p range.units).0 o).0 o.2.spelled
 
 -- what is lent from the first bytes is lent from all
-lent_of_first : (p : ℕ) (b : List ℕ) (ls : List Lent) → AreLentFrom (take p b) ls → AreLentFrom b ls
+pub lent_of_first : (p : ℕ) (b : List ℕ) (ls : List Lent) → AreLentFrom (take p b) ls → AreLentFrom b ls
 lent_of_first p b [] a = tt
 lent_of_first p b (l ∷ ls) a =
     let n : ℕ = length l.bytes.now in

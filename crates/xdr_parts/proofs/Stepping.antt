@@ -65,7 +65,7 @@ pub nothing_left : (s : List KindView) (at : ℕ) (c : List ℕ) (es : List Entr
 nothing_left s at c es r = (ended s at [] c es r).1
 
 -- content goes by with its zeros
-content_goes : (s : List KindView) (at n : ℕ) (gs : List (List Part)) (bytes : List ℕ) (es : List Entry)
+pub content_goes : (s : List KindView) (at n : ℕ) (gs : List (List Part)) (bytes : List ℕ) (es : List Entry)
     → at ≤ length bytes → Completes s at (Rest n ∷ dues gs) (drop at bytes) es
     → Completes s (at + (n + gap n)) (dues gs) (drop (at + (n + gap n)) bytes) es × (at + (n + gap n) ≤ length bytes)
 content_goes s at n gs bytes es within r =

@@ -10,11 +10,11 @@
 
 mod coming;
 mod counting;
-mod judge;
+pub mod judge;
 mod listing;
 mod next;
 mod numbers;
-mod part;
+pub mod part;
 mod taken;
 mod walk;
 mod whole;

@@ -46,7 +46,7 @@ pub struct Lent<'a> {
 }
 
 /// The part of so many bytes at a place.
-pub fn part_at<'a>(
+pub(crate) fn part_at<'a>(
     bytes: &'a [u8],
     at: usize,
     depth: u32,

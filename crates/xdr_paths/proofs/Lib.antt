@@ -6,3 +6,4 @@ pub mod Named
 pub mod Optional
 pub mod OwnParts
 pub mod Following
+pub mod Endings

@@ -166,7 +166,7 @@ module _ (kinds : List KindView) (limits : Bounds) (bytes : List ℕ) where
 
   -- ---- a union
 
-  choice_of : (k : KindView) (tag : ℕ) → IsChoice k tag
+  pub choice_of : (k : KindView) (tag : ℕ) → IsChoice k tag
       → (arms : List Branch) × (other : Option Part) × (xdr.choice tag arms other ≡ k)
   choice_of (xdr.choice t arms other) tag e = (arms, other, ap (λ (x : ℕ). xdr.choice x arms other) (sym e))
   choice_of _ tag e = absurd e

@@ -79,7 +79,7 @@ group_shown s a d p xdr.nothing _ f l = absurd l
 group_shown s a d p _ h f l = absurd f
 
 -- the unit that comes first is the length
-same_unit : (x n : ℕ) (c y : List ℕ) → x < 2 ^ 32 → n < 2 ^ 32 → word x ++ c ≡ word n ++ y → x ≡ n
+pub same_unit : (x n : ℕ) (c y : List ℕ) → x < 2 ^ 32 → n < 2 ^ 32 → word x ++ c ≡ word n ++ y → x ≡ n
 same_unit x n c y less small e = sym (from4-unit4 x c less) ∙ ap from4 e ∙ from4-unit4 n y small
 
 -- content behind its length

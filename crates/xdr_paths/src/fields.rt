@@ -100,8 +100,8 @@ impl<'a> Look<'a> {
         None
     }
 
-    // The number that a unit stands for as a discriminant.
-    fn discriminant(&self, tag: KindId, number: u32) -> i64
+    /// The number that a unit stands for as a discriminant.
+    pub(crate) fn discriminant(&self, tag: KindId, number: u32) -> i64
         ensures { result ≡ number_in (kind_at self.now.schema.now.kinds tag.place) number }
     {
         if !self.schema.has(tag) {

@@ -8,11 +8,11 @@ ghost use Rattle.xdr_stream.specs.declared.fault.DecodeFault.{DecodeFault as Ref
 ghost use Rattle.xdr_parts.specs.Lent.{entry_of, IsLentFrom};
 ghost use Rattle.xdr_paths.specs.Paths.{Names};
 
-use crate::judge::judge;
 use crate::look::Look;
 use crate::spot::Spot;
 use std::alloc::Global;
 use xdr_parts::Lent;
+use xdr_parts::judge::judge;
 use xdr_stream::{DecodeFault, Reason};
 use xdr_types::{KindId, Limits, Schema};
 

@@ -2,16 +2,16 @@
 //!
 //! - `finding`: the part that a path names. `steps`: the steps of a path, read from its text. `walk`: the part that
 //!   they lead to.
-//! - `look`: the bytes of a value that were judged before, by `judge`. `spot`: where a node stands in them. `inside`,
-//!   `fields`, `items`: the node that a step leads to. `own`: the part that stands for a node. `unit`: a unit.
+//! - `look`: the bytes of a value that were judged before. `spot`: where a node stands in them. `ends`: where it ends.
+//! - `inside`, `fields`, `items`: the node that a step leads to. `own`: the part that stands for it. `unit`: a unit.
 //! - `number`: the number that a part has.
 #![tactic(auto)]
 
+mod ends;
 mod fields;
 mod finding;
 mod inside;
 mod items;
-mod judge;
 mod look;
 mod number;
 mod own;

@@ -1,0 +1,5 @@
+pub mod Slot
+pub mod Holding
+pub mod Parts
+pub mod Answered
+pub mod Root

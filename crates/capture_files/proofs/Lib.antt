@@ -1,0 +1,6 @@
+mod Fronts
+mod Represented
+mod Taking
+mod Passed
+mod Ended
+mod Once

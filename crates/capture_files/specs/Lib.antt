@@ -1,0 +1,14 @@
+pub mod Numbers
+pub mod Limits
+pub mod Classic
+pub mod Sections
+pub mod Interfaces
+pub mod Packets
+pub mod Passing
+pub mod Blocks
+pub mod Steps
+pub mod Gathers
+pub mod Fields
+pub mod Runs
+pub mod Represents
+pub mod Private

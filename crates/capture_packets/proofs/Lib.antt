@@ -1,0 +1,4 @@
+mod Extensions
+mod Parts
+mod Lying
+mod Spelling

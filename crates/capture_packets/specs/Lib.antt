@@ -1,0 +1,10 @@
+pub mod Fields
+pub mod Steps
+pub mod Packet
+pub mod View
+pub mod Links
+pub mod Internet
+pub mod Transport
+pub mod Packets
+pub mod Lies
+pub mod Spelled

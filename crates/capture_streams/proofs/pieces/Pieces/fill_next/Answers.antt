@@ -1,0 +1,14 @@
+use Rattle.std.proofs.Common.{arith}
+use Rattle.std.proofs.lemmas.List.{length-take-le}
+use Rattle.capture_streams.proofs.Filling.{next_held}
+use Rattle.capture_streams.proofs.pieces.Pieces.fill_next.Goals as goal
+
+pub put-requires-clause-gap : goal.put-requires-clause-gap
+put-requires-clause-gap c = λ place low high.
+    let long = length-take-le c.in-Gap.n c.args.bytes.now c.in-Gap.ensures.1 in
+    c.in-Gap.ensures.2 place low (omega arith)
+
+pub returns-in-Held-clause-ok : goal.returns-in-Held-clause-ok
+returns-in-Held-clause-ok c =
+    next_held c.args.self.now.by_last c.args.at c.in-Held.n c.args.bytes.now c.in-Held.ensures.0 c.in-Held.ensures.1
+    c.in-Held.ensures.2

@@ -1,0 +1,6 @@
+pub mod Segments
+pub mod Held
+pub mod Represents
+pub mod Taking
+pub mod Laws
+pub mod Private

@@ -1,0 +1,5 @@
+pub mod Ahead
+pub mod Captures
+pub mod Hole
+pub mod Read
+pub mod Taken

@@ -1,0 +1,126 @@
+-- What packets bring, one more after another, and what was printed of them.
+use Rattle.std.proofs.Common.{◌≡◌, ℕ, suc, ◌+◌, ◌-◌, ◌^◌, min, List, [], ◌∷◌, ◌++◌, length, Option, Some, None}
+use Rattle.std.proofs.Common.{refl, sym, ap, ◌∙◌, subst, arith, append_assoc, length-append}
+use Rattle.std.proofs.lemmas.List.{append-nil}
+use Rattle.capture_files.specs.declared.progress.Progress.{Progress}
+use Rattle.capture_files.specs.declared.progress.Progress.TheVariants.{Gathering, Waiting, Broken}
+use Rattle.capture_files.specs.declared.reader.CaptureReader.{CaptureReader}
+use Rattle.capture_files.specs.declared.reason.CaptureReason.{CaptureReason}
+use Rattle.capture_files.specs.declared.reason.CaptureReason.TheVariants as reason
+use Rattle.capture_files.specs.Represents.{Faulty, Represents, Takes, waiting, waiting_at, waits_at}
+use Rattle.capture_files.specs.Runs.{PacketView, capped}
+use Rattle.oncrpc_capture.specs.declared.printing.Printing.{Printing}
+use Rattle.oncrpc_capture.specs.Brought.{Brings, BringAll}
+use Rattle.oncrpc_capture.specs.Entries.{Entry, FileRefused}
+use Rattle.oncrpc_capture.specs.Files.{CeasesAt, reason_name}
+use Rattle.oncrpc_capture.specs.Private.Steps.{IsBrokenOff, IsThrough, Prints, PrintsOf}
+use Rattle.oncrpc_capture.proofs.Printed.{prints_join, prints_none}
+
+pub brings_more : (ports : List ℕ) (number : ℕ) (ps : List PacketView) (p : PacketView) (xs ys : List Entry)
+    → BringAll ports number ps xs → Brings ports (capped (number + length ps)) p ys
+    → BringAll ports number (ps ++ p ∷ []) (xs ++ ys)
+unfolding BringAll
+brings_more ports number [] p xs ys none one = (
+  ys,
+  [],
+  subst (λ (n : ℕ). Brings ports (capped n) p ys) (omega arith) one,
+  refl,
+  ap (λ (k : List Entry). k ++ ys) none ∙ sym (append-nil ys),
+)
+brings_more ports number (q ∷ ps) p xs ys (first, rest, here, more, is) one = (
+  first,
+  rest ++ ys,
+  here,
+  brings_more ports (suc number) ps p rest ys more
+      (subst (λ (n : ℕ). Brings ports (capped n) p ys) (omega arith) one),
+  ap (λ (k : List Entry). k ++ ys) is ∙ append_assoc first rest ys,
+)
+
+-- ---- the packet that waits
+
+listed : Option PacketView → List PacketView
+listed None = []
+listed (Some v) = v ∷ []
+
+waits_listed : (g : Progress) (unit : List ℕ) → waits_at g unit ≡ listed (waiting_at g unit)
+unfolding listed
+waits_listed Gathering unit = refl
+waits_listed (Waiting found) unit = refl
+waits_listed (Broken fault) unit = refl
+
+-- ---- a reader goes on
+
+pub through_start : (r : CaptureReader) (ports : List ℕ) (p : Printing) (a : Option (List ℕ)) → Represents r [] []
+    → IsThrough r [] ports 0 p p a a
+unfolding BringAll
+through_start r ports p a h = record {
+  packets = [];
+  entries = [];
+  represents = h;
+  brings = refl;
+  frame_is = omega arith;
+  prints = prints_none p a;
+}
+
+-- bytes were taken that end no packet
+pub through_more : (r new : CaptureReader) (bytes taken ports : List ℕ) (frame : ℕ) (p q : Printing)
+    (a b : Option (List ℕ)) → IsThrough r bytes ports frame p q a b → Takes r new taken → new.progress ≡ Gathering
+    → IsThrough new (bytes ++ taken) ports frame p q a b
+through_more r new bytes taken ports frame p q a b h takes open_is = record {
+  packets = h.packets;
+  entries = h.entries;
+  represents = subst (λ (ps : List PacketView). Represents new (bytes ++ taken) ps)
+      (ap (λ (g : Progress). h.packets ++ waits_at g new.unit.items) open_is ∙ append-nil h.packets)
+      (takes bytes h.packets h.represents);
+  brings = h.brings;
+  frame_is = h.frame_is;
+  prints = h.prints;
+}
+
+-- bytes were taken that end a packet, and what it brings was printed
+pub through_packet : (r new : CaptureReader) (bytes taken ports : List ℕ) (frame frame' : ℕ) (p mid q : Printing)
+    (a b c : Option (List ℕ)) (v : PacketView) → IsThrough r bytes ports frame p mid a b → Takes r new taken
+    → Some v ≡ waiting new → frame' ≡ min (frame + 1) (2 ^ 64 - 1) → PrintsOf (λ es. Brings ports frame' v es) mid q b c
+    → IsThrough new (bytes ++ taken) ports frame' p q a c
+unfolding listed
+through_packet r new bytes taken ports frame frame' p mid q a b c v h takes waits next one =
+    let number : frame' ≡ capped (1 + length h.packets) = omega (arith, next, h.frame_is) in
+    record {
+      packets = h.packets ++ v ∷ [];
+      entries = h.entries ++ one.entries;
+      represents = subst (λ (ps : List PacketView). Represents new (bytes ++ taken) (h.packets ++ ps))
+          (waits_listed new.progress new.unit.items ∙ ap listed (sym waits)) (takes bytes h.packets h.represents);
+      brings = brings_more ports 1 h.packets v h.entries one.entries h.brings
+          (subst (λ (n : ℕ). Brings ports n v one.entries) number one.those);
+      frame_is = omega (arith, number, length-append h.packets (v ∷ []));
+      prints = prints_join p mid q h.entries one.entries a b c h.prints one.prints;
+    }
+
+-- what a fault says of bytes, where memory was not refused
+pub ceases : (why : CaptureReason) (at : ℕ) (bytes : List ℕ) (ps : List PacketView) → (why ≡ reason.NoMemory → ⊥)
+    → Faulty why at bytes ps → CeasesAt why at bytes ps
+ceases reason.NotACapture at bytes ps other h = h
+ceases reason.UnknownVersion at bytes ps other h = h
+ceases reason.Truncated at bytes ps other h = h
+ceases reason.BadLength at bytes ps other h = h
+ceases reason.PacketTooLong at bytes ps other h = h
+ceases reason.UnknownInterface at bytes ps other h = h
+ceases reason.TooManyInterfaces at bytes ps other h = h
+ceases reason.NoMemory at bytes ps other h = absurd (other refl)
+
+-- bytes were taken that are refused, and that was printed
+pub broken_off : (r new : CaptureReader) (bytes taken ports : List ℕ) (frame : ℕ) (p mid q : Printing)
+    (a b c : Option (List ℕ)) (why : CaptureReason) (at : ℕ) → IsThrough r bytes ports frame p mid a b
+    → ((ps : List PacketView) → Represents r bytes ps → Faulty why at (bytes ++ taken) ps)
+    → (why ≡ reason.NoMemory → ⊥) → (why ≡ reason.Truncated → ⊥)
+    → Prints mid q (FileRefused (reason_name why) at ∷ []) b c → IsBrokenOff (bytes ++ taken) ports p q a c
+broken_off r new bytes taken ports frame p mid q a b c why at h says memory more one = record {
+  packets = h.packets;
+  entries = h.entries;
+  why = why;
+  at = at;
+  ceases = ceases why at (bytes ++ taken) h.packets memory (says h.packets h.represents);
+  more = more;
+  brings = h.brings;
+  prints = prints_join p mid q h.entries (FileRefused (reason_name why) at ∷ []) a b c h.prints one;
+}

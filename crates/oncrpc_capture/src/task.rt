@@ -1,0 +1,17 @@
+//! What the words of `capture` ask for.
+use oncrpc_answers::Texts;
+
+/// A capture to be read.
+#[derive(PartialEq, Eq, Drop)]
+pub struct CaptureTask {
+    /// The file, or `-` for the input.
+    pub file: String,
+    /// The texts that declare programs.
+    pub types: Texts,
+    /// The ports whose traffic is RPC. Without any it is what looks like it.
+    pub ports: Vec<u16>,
+    /// Whether each message is a line of JSON.
+    pub json: bool,
+    /// Whether counts are printed in place of messages.
+    pub stats: bool,
+}

@@ -1,0 +1,4 @@
+pub mod Frames
+pub mod Standing
+pub mod Coming
+pub mod Private
