@@ -6,13 +6,10 @@ use oncrpc_tasks::{Unusable, declared};
 use std::alloc::{AllocError, Global};
 use xdr_lang::Declared;
 
-/// What the installed texts declare, each by itself, where no texts are named. One that is not there is passed over.
-pub fn installed_texts(rt: &HostRuntime, types: &Texts) -> Result<Vec<Declared>, Failure> {
+/// What the installed texts declare, each by itself. One that is not there is passed over.
+pub fn installed_texts(rt: &HostRuntime) -> Result<Vec<Declared>, Failure> {
     let alloc = rt.alloc();
     let mut texts = Vec::new(alloc);
-    if !types.files.is_empty() {
-        return Ok(texts);
-    }
     let mut opener = FileOpener::installed(rt)?;
     for (_number, name) in INSTALLED {
         match declared(alloc, &text_named(alloc, name)?, &mut opener) {

@@ -21,7 +21,7 @@ pub fn messages<O: Sink, F: Sink>(
     let Ok(mut opener) = FileOpener::new(rt) else {
         return report(Failure::NoMemory, faults);
     };
-    let texts = match installed_texts(rt, &what.types) {
+    let texts = match installed_texts(rt) {
         Ok(texts) => texts,
         Err(failure) => return report(failure, faults),
     };
@@ -50,7 +50,7 @@ pub fn capture<O: Sink, F: Sink>(
     let Ok(mut opener) = FileOpener::new(rt) else {
         return report(Failure::NoMemory, faults);
     };
-    let texts = match installed_texts(rt, &what.types) {
+    let texts = match installed_texts(rt) {
         Ok(texts) => texts,
         Err(failure) => return report(failure, faults),
     };

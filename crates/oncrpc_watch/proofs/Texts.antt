@@ -5,24 +5,24 @@ use Rattle.std.proofs.lemmas.List.{at_drop_more}
 use Rattle.xdr_lang.specs.Declarations.{Declared}
 use Rattle.xdr_lang.specs.Views.{declared_of}
 use Rattle.xdr_lang.specs.declared.declarations.Declared as code
-use Rattle.oncrpc_watch.specs.Terms.{declaring, each_declared, has_program}
+use Rattle.oncrpc_watch.specs.Terms.{first_declaring, each_declared, has_program}
 
 module _ (d : Declared) (ds : List code.Declared) (i : ℕ) (x : code.Declared) (program : ℕ) (some : i < length ds)
     (is : x ≡ get_or ds i x) where
-  split : declaring d (each_declared (drop i ds)) program ≡ declaring d (each_declared (x ∷ drop (i + 1) ds)) program
-  split = at_drop_more (λ k. declaring d (each_declared k) program) ds i x some
-      ∙ ap (λ k. declaring d (each_declared (k ∷ drop (i + 1) ds)) program) (sym is)
+  split : first_declaring d (each_declared (drop i ds)) program ≡ first_declaring d (each_declared (x ∷ drop (i + 1) ds)) program
+  split = at_drop_more (λ k. first_declaring d (each_declared k) program) ds i x some
+      ∙ ap (λ k. first_declaring d (each_declared (k ∷ drop (i + 1) ds)) program) (sym is)
 
   chosen : (b : Bool) → has_program program (declared_of x) ≡ b
-      → declaring d (each_declared (x ∷ drop (i + 1) ds)) program
-      ≡ (if b then declared_of x else declaring d (each_declared (drop (i + 1) ds)) program)
+      → first_declaring d (each_declared (x ∷ drop (i + 1) ds)) program
+      ≡ (if b then declared_of x else first_declaring d (each_declared (drop (i + 1) ds)) program)
   chosen b e = ap (λ (t : Bool). if t then declared_of x
-      else declaring d (each_declared (drop (i + 1) ds)) program) e
+      else first_declaring d (each_declared (drop (i + 1) ds)) program) e
 
   pub is_first : has_program program (declared_of x) ≡ true
-      → declaring d (each_declared (drop i ds)) program ≡ declared_of x
+      → first_declaring d (each_declared (drop i ds)) program ≡ declared_of x
   is_first e = split ∙ chosen true e
 
   pub is_later : has_program program (declared_of x) ≡ false
-      → declaring d (each_declared (drop i ds)) program ≡ declaring d (each_declared (drop (i + 1) ds)) program
+      → first_declaring d (each_declared (drop i ds)) program ≡ first_declaring d (each_declared (drop (i + 1) ds)) program
   is_later e = split ∙ chosen false e

@@ -36,10 +36,14 @@ terms_of t = record {
 abbrev pub has_program : (program : ℕ) → Declared → Bool
 has_program program d = list_any (λ p. p.number == program) d.programs
 
--- what declares a program: the first of the texts that have it, each read by itself, else what the words name
+-- the first of these texts that declares a program, each read by itself, else this one
+abbrev pub first_declaring : Declared → (known : List Declared) → (program : ℕ) → Declared
+first_declaring d [] program = d
+first_declaring d (t ∷ ts) program = if has_program program t then t else first_declaring d ts program
+
+-- what declares a program: what the words name, unless only another text has it
 abbrev pub declaring : Declared → (known : List Declared) → (program : ℕ) → Declared
-declaring d [] program = d
-declaring d (t ∷ ts) program = if has_program program t then t else declaring d ts program
+declaring d known program = if has_program program d then d else first_declaring d known program
 
 -- how messages of a program are read and printed
 abbrev pub settings_by : Terms → (program : ℕ) → Settings

@@ -2,7 +2,7 @@
 ghost use Rattle.std.specs.Prelude.{◌≡◌, ◌==◌, map};
 ghost use Rattle.std.specs.List.{list_any};
 ghost use Rattle.xdr_lang.specs.Views.{declared_of, program_of};
-ghost use Rattle.oncrpc_watch.specs.Terms.{declaring, each_declared};
+ghost use Rattle.oncrpc_watch.specs.Terms.{declaring, each_declared, first_declaring};
 
 use oncrpc_messages::{Form, Heads, Settings};
 use xdr_lang::{Declared, Program};
@@ -28,8 +28,8 @@ impl<'a> Terms<'a> {
     ghost use Rattle.oncrpc_messages.specs.Settings.{settings_of};
     ghost use Rattle.oncrpc_watch.specs.Terms.{settings_by, terms_of};
 
-    /// How messages of this program are read and printed: by the first text that has it of those that are read by
-    /// themselves, else by what the words name.
+    /// How messages of this program are read and printed: by what the words name where that has it, else by the first
+    /// other text that has it. Where none has it, nothing of it is declared.
     pub fn settings(&self, program: u32) -> Settings<'a>
         ensures { settings_of result ≡ settings_by (terms_of self.now) program }
     {
@@ -42,9 +42,20 @@ impl<'a> Terms<'a> {
     }
 }
 
-// What declares a program: the first of these that has it, else this one.
+// What declares a program: this one where it has it, else the first of the others that has it, else this one.
 fn declaring<'a>(declared: &'a Declared, known: &'a [Declared], program: u32) -> &'a Declared
     ensures { declared_of result.now ≡ declaring (declared_of declared.now) (each_declared known.now) program }
+{
+    if has_program(declared.programs.as_slice(), program) {
+        declared
+    } else {
+        first_declaring(declared, known, program)
+    }
+}
+
+// The first of these that has a program, else this one.
+fn first_declaring<'a>(declared: &'a Declared, known: &'a [Declared], program: u32) -> &'a Declared
+    ensures { declared_of result.now ≡ first_declaring (declared_of declared.now) (each_declared known.now) program }
 {
     for text in known {
         if has_program(text.programs.as_slice(), program) {

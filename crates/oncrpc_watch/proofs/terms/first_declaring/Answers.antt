@@ -4,7 +4,7 @@ use Rattle.std.specs.List.{list_any}
 use Rattle.xdr_lang.specs.Declarations.{Program}
 use Rattle.xdr_lang.specs.Views.{declared_of, program_of}
 use Rattle.oncrpc_watch.proofs.Texts.{is_first, is_later}
-use Rattle.oncrpc_watch.proofs.terms.declaring.Goals as goal
+use Rattle.oncrpc_watch.proofs.terms.first_declaring.Goals as goal
 
 pub returns-then-has_program : goal.returns-then-has_program
 returns-then-has_program c =

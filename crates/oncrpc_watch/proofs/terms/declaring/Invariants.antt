@@ -1,8 +1,0 @@
-use Rattle.std.proofs.Common.{◌≡◌, drop}
-use Rattle.xdr_lang.specs.Views.{declared_of}
-use Rattle.oncrpc_watch.specs.Terms.{declaring, each_declared}
-use Rattle.oncrpc_watch.proofs.terms.declaring.Given as goal
-
-abbrev pub invariant-loop-text : goal.invariant-loop-text
-invariant-loop-text l = declaring (declared_of l.declared) (each_declared (drop l.text-index l.known)) l.program
-    ≡ declaring (declared_of l.declared) (each_declared l.known) l.program
