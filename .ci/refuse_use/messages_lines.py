@@ -6,7 +6,7 @@ import subprocess
 from refuse_use.messages_hostile import hostile_rows
 from refuse_use.messages_long import further_rows
 from refuse_use.messages_recorded import recorded_rows
-from refuse_use.messages_streams import ROOT, RPCBIND, Sweep, call, counts, fragment, reply, sys_body, words
+from refuse_use.messages_streams import ROOT, RPCBIND, Sweep, call, counts, ended, fragment, reply, sys_body, words
 from refuse_use.packets import connections
 from telling import tell
 
@@ -171,6 +171,28 @@ def named(program, folder):
     return "" if len(found) == 132 else f"{len(found)} messages"
 
 
+# A program of one's own, and another text of one that is installed.
+OWN = "program OWN { version OWN_V { unsigned TWICE(unsigned) = 1; } = 1; } = 536870912;"
+OTHER = "program ASKED { version ASKED_V { unsigned ASK(unsigned, unsigned, unsigned, unsigned) = 3; } = 2; } = 100000;"
+# Calls of both, and the words with what is printed of the second.
+CALLED = fragment(call(1, 536870912, 1, 1, words(7))) + fragment(GETPORT)
+BESIDE = [
+    ("--types own.x", GETPORT_LINES),
+    ("--types own.x --types other.x", b"call 8 100000.2.3 ASK AUTH_NONE\n100003\n3\n6\n0\n"),
+]
+
+
+def beside_installed(program, folder):
+    """With the installed texts at hand: what the words name comes first, and does not take the place of the others."""
+    for name, text in (("own.x", OWN), ("other.x", OTHER)):
+        with open(f"{folder}/{name}", "w", encoding="ascii") as it:
+            it.write(text)
+    for line, printed in BESIDE:
+        printed = b"call 1 536870912.1.1 TWICE AUTH_NONE\n7\n" + printed + counts(2, 0, 0, 0, 0, 0)
+        got = ended(program, folder, line, CALLED)
+        yield tell(f"messages {line}, beside the installed texts", got == (0, printed, b""), got)
+
+
 def messages_rows(program, folder, heap):
     sweep = Sweep(program, folder, heap)
     yield sweep.row("an empty stream", RPCBIND, b"", (0, counts(0, 0, 0, 0, 0, 0)), 1)
@@ -179,6 +201,7 @@ def messages_rows(program, folder, heap):
     yield from both_rows(sweep, BOTH)
     said = named(program, f"{folder}/watched")
     yield tell("messages of tests/captures/libnfs.pcap", not said, said, "as tshark names them")
+    yield from beside_installed(f"{folder}/watched/bin/oncrpc", folder)
     yield from recorded_rows(program, folder)
     yield from hostile_rows(sweep)
     yield from further_rows(sweep)
