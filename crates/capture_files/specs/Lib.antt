@@ -11,4 +11,5 @@ pub mod Gathers
 pub mod Fields
 pub mod Runs
 pub mod Represents
+pub mod Faults
 pub mod Private
