@@ -1,11 +1,10 @@
 -- Faults that were answered before, and new ones.
-use Rattle.std.proofs.Common.{◌≡◌, ◌≢◌, ◌⊎◌, ℕ, List, inl, inr, Result, Ok, Err, refl, sym, ap, subst, ◌∙◌}
+use Rattle.std.proofs.Common.{◌≡◌, ◌≢◌, ◌⊎◌, ℕ, List, inl, inr, Result, Ok, Err, sym, ap, subst}
 use Rattle.capture_files.specs.declared.captured.Found.{Found}
 use Rattle.capture_files.specs.declared.fault.CaptureFault.{CaptureFault}
 use Rattle.capture_files.specs.declared.fault.CaptureStep.{CaptureStep}
 use Rattle.capture_files.specs.declared.place.Step.{Step}
 use Rattle.capture_files.specs.declared.place.Step.TheVariants.{Need, Moved, Section, Described, Packet, Refused}
-use Rattle.capture_files.specs.declared.progress.Progress.{Progress}
 use Rattle.capture_files.specs.declared.progress.Progress.TheVariants.{Gathering, Waiting, Broken}
 use Rattle.capture_files.specs.declared.reader.CaptureReader.{CaptureReader}
 use Rattle.capture_files.specs.declared.reason.CaptureReason.{CaptureReason}
@@ -71,7 +70,10 @@ end_gathers old new (Ok done) go mid e h =
     record { again = λ fault k. not_gathering new fault e (go.still fault k); cut = tt }
 end_gathers old new (Err fault) go mid e h = record {
   again = λ other k. not_gathering new other e (go.still other k);
-  cut = elim h.cut [ inl k ↦ inl (go.before fault k) | inr k ↦ inr k ];
+  cut = elim h.cut [
+    | inl k ↦ inl (go.before fault k)
+    | inr k ↦ inr (k.0, λ bytes ps r. k.1 bytes ps (go.represents bytes ps r))
+  ];
 }
 
 -- ---- what a unit leads to

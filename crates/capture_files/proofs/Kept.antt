@@ -1,5 +1,5 @@
 -- What a reader keeps of the bytes that it has taken.
-use Rattle.std.proofs.Common.{◌≡◌, ℕ, List}
+use Rattle.std.proofs.Common.{ℕ, List}
 use Rattle.capture_files.specs.declared.progress.Progress.{Progress}
 use Rattle.capture_files.specs.declared.progress.Progress.TheVariants.{Gathering, Waiting, Broken}
 use Rattle.capture_files.specs.declared.reader.CaptureReader.{CaptureReader}

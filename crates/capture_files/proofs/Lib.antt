@@ -6,3 +6,5 @@ mod Passed
 mod Ended
 mod Once
 mod Kept
+mod Spelled
+mod Stopped

@@ -87,7 +87,7 @@ takes_then first mid new n m piece e one two = λ bytes ps h.
     subst (λ (x : List ℕ). Represents new x (ps ++ waits_at new.progress new.unit.items)) both
     (two (bytes ++ take n piece) ps held)
 
-refused_more : (at : ℕ) (bytes more : List ℕ) (ps : List PacketView) (x : CaptureReason)
+pub refused_more : (at : ℕ) (bytes more : List ℕ) (ps : List PacketView) (x : CaptureReason)
     → RefusedAt at bytes ps (Refused x) → RefusedAt at (bytes ++ more) ps (Refused x)
 refused_more at bytes more ps x h = record {
   whole = h.whole;

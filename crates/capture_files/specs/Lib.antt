@@ -12,4 +12,5 @@ pub mod Fields
 pub mod Runs
 pub mod Represents
 pub mod Faults
+pub mod Spelled
 pub mod Private

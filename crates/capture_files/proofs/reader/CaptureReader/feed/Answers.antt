@@ -1,7 +1,7 @@
 use Rattle.std.proofs.Common.{ℕ, ◌≤◌, List, length, take, subst, arith}
 use Rattle.std.proofs.lemmas.List.{length-drop, take_rest}
 use Rattle.capture_files.specs.Represents.{Takes}
-use Rattle.capture_files.proofs.Faults.{follows_let_go, follows_take, piece_broken, piece_gathers, piece_waits}
+use Rattle.capture_files.proofs.Faults.{follows_let_go, follows_take, piece_broken, piece_waits}
 use Rattle.capture_files.proofs.Taking.{let_go_takes, takes_then, takes_broken}
 use Rattle.capture_files.proofs.reader.CaptureReader.feed.Goals as goal
 
