@@ -1,10 +1,10 @@
 -- How many bytes are held.
 use Rattle.std.proofs.Common.{◌≡◌, ℕ, zero, suc, ◌+◌, ◌-◌, ◌*◌, ◌<◌, ◌≤◌, List, [], ◌∷◌, length, Option, Some, None}
-use Rattle.std.proofs.Common.{is_some, refl, sym, ap, subst, ◌∙◌, inl, inr, arith, Bool, true, false, cond, if◌then◌else◌}
+use Rattle.std.proofs.Common.{is_some, refl, sym, ap, subst, ◌∙◌, inl, inr, arith, Bool, true, false, cond}
 use Rattle.std.proofs.lemmas.Bool.{cases_eq, cases_lt, le-ltb, eq-eqb, ne_eqb}
 use Rattle.std.proofs.lemmas.List.Sums.{sum_by-cons}
 use Rattle.std.proofs.lemmas.Map.Keys.{sorted_head, sorted_tail}
-use Rattle.std.specs.BTreeMap.{BTreeMap, get, is_at, IsOrdered}
+use Rattle.std.specs.BTreeMap.{is_at}
 use Rattle.std.specs.List.{AllByRecursion, sum_by}
 use Rattle.std.specs.List.Sorted.{IsStrictlySortedBy}
 use Rattle.std.specs.Map.{keys_of, values_of, lookup}
@@ -13,9 +13,9 @@ use Rattle.std.specs.declared.cmp.Ordering.TheVariants.{Less}
 use Rattle.capture_streams.specs.declared.direction.Direction.{Direction}
 use Rattle.capture_streams.specs.declared.piece.Piece.{Piece}
 use Rattle.capture_streams.specs.Segments.{byte_from}
-use Rattle.capture_streams.specs.Held.{HoldsAt, IsPiece, AreApart, StandFrom, cost_of}
+use Rattle.capture_streams.specs.Held.{HoldsAt, IsPiece, cost_of}
 use Rattle.capture_streams.specs.Represents.{Represents, given_count, HoldsGiven}
-use Rattle.capture_streams.proofs.Bytes.{none_is_not, some_is_not, byte_from-low, byte_from-high}
+use Rattle.capture_streams.proofs.Bytes.{none_is_not, byte_from-low, byte_from-high}
 use Rattle.capture_streams.proofs.Holding.{piece_has, begins_low, some_same}
 use Rattle.capture_streams.proofs.Putting.{same_key, other_key}
 

@@ -1,6 +1,6 @@
 -- Why bytes are refused.
-use Rattle.std.proofs.Common.{◌≡◌, ℕ, ◌+◌, ◌-◌, ◌^◌, ◌<◌, ◌≤◌, List, length, Result, Ok, Err, IfErr, refl, sym, ap}
-use Rattle.std.proofs.Common.{subst, ◌∙◌, arith}
+use Rattle.std.proofs.Common.{◌≡◌, ℕ, ◌+◌, ◌-◌, ◌^◌, ◌<◌, List, length, Result, Ok, Err, IfErr, sym}
+use Rattle.std.proofs.Common.{subst, arith}
 use Rattle.capture_streams.specs.declared.direction.Direction.{Direction}
 use Rattle.capture_streams.specs.declared.pieces.Pieces.{Pieces}
 use Rattle.capture_streams.specs.declared.refusal.Refusal.{Refusal}

@@ -1,5 +1,5 @@
 -- The steps of a direction, over whatever bytes its places have.
-use Rattle.std.specs.Prelude.{◌≡◌, ℕ, ◌+◌, ◌-◌, ◌^◌, ◌<◌, ◌≤◌, List, ◌++◌, length, Option}
+use Rattle.std.specs.Prelude.{◌≡◌, ℕ, ◌+◌, ◌^◌, ◌<◌, ◌≤◌, List, ◌++◌, length, Option}
 use Rattle.std.specs.Option.{option_or}
 use Rattle.capture_streams.specs.declared.direction.Direction.{Direction}
 use Rattle.capture_streams.specs.declared.pieces.Pieces.{Pieces}
