@@ -1,5 +1,5 @@
 -- The end of a file.
-use Rattle.std.proofs.Common.{◌≡◌, ℕ, ◌<◌, List, [], ◌++◌, length, Result, Ok, Err, sym, ap, subst, ◌∙◌}
+use Rattle.std.proofs.Common.{◌≡◌, ℕ, ◌<◌, List, [], ◌++◌, length, Result, Ok, Err, inr, refl, sym, ap, subst, ◌∙◌}
 use Rattle.std.proofs.lemmas.List.{append-nil}
 use Rattle.capture_files.specs.declared.fault.CaptureFault.{CaptureFault}
 use Rattle.capture_files.specs.declared.progress.Progress.{Progress}
@@ -7,9 +7,11 @@ use Rattle.capture_files.specs.declared.progress.Progress.TheVariants.{Gathering
 use Rattle.capture_files.specs.declared.reader.CaptureReader.{CaptureReader}
 use Rattle.capture_files.specs.declared.reason.CaptureReason.{CaptureReason}
 use Rattle.capture_files.specs.declared.reason.CaptureReason.TheVariants.{Truncated}
+use Rattle.capture_files.specs.Faults.{RefusesEnd}
 use Rattle.capture_files.specs.Private.Moves.{IsBetween, IsInside, LetsGo}
 use Rattle.capture_files.specs.Represents.{state_of, Faulty, RepresentsAt, Represents, Ends}
 use Rattle.capture_files.specs.Runs.{PacketView, Front, IsCapture, CutAt}
+use Rattle.capture_files.proofs.Faults.{not_gathering}
 use Rattle.capture_files.proofs.Taking.{holds_of}
 
 -- between two units a file ends well
@@ -26,13 +28,12 @@ capture_is r bytes ps e between h =
     }
 
 -- inside of one it is cut
-pub cut_is : (r new : CaptureReader) (fault : CaptureFault) (bytes : List ℕ) (ps : List PacketView)
-    → r.progress ≡ Gathering → IsInside r → length r.unit.items < r.need → new.progress ≡ Broken fault
-    → fault.reason ≡ Truncated → fault.at ≡ r.at
-    → Represents r bytes ps → Represents new bytes ps
-cut_is r new fault bytes ps e inside short broken why at h =
+cut_at : (r : CaptureReader) (at : ℕ) (bytes : List ℕ) (ps : List PacketView) → r.progress ≡ Gathering → IsInside r
+    → length r.unit.items < r.need → at ≡ r.at → Represents r bytes ps
+    → (cut : CutAt at bytes ps) × (cut.more ≡ [])
+cut_at r at bytes ps e inside short here h =
     let held = holds_of r bytes ps e h in
-    let cut : CutAt fault.at bytes ps =
+    let cut : CutAt at bytes ps =
     record {
       whole = held.whole;
       unit = r.unit.items;
@@ -43,10 +44,25 @@ cut_is r new fault bytes ps e inside short broken why at h =
       need = r.need;
       asked = held.asked;
       asks = held.asks;
-      place = at ∙ held.place;
+      place = here ∙ held.place;
       short = short;
       inside = inside;
     } in
+    (cut, refl)
+
+pub refuses_cut : (r new : CaptureReader) (fault : CaptureFault) → r.progress ≡ Gathering → IsInside r
+    → length r.unit.items < r.need → fault.reason ≡ Truncated → fault.at ≡ r.at → RefusesEnd r new (Err fault)
+refuses_cut r new fault e inside short why at = record {
+  again = λ other k. not_gathering r other e k;
+  cut = inr (why, λ bytes ps h. cut_at r fault.at bytes ps e inside short at h);
+}
+
+pub cut_is : (r new : CaptureReader) (fault : CaptureFault) (bytes : List ℕ) (ps : List PacketView)
+    → r.progress ≡ Gathering → IsInside r → length r.unit.items < r.need → new.progress ≡ Broken fault
+    → fault.reason ≡ Truncated → fault.at ≡ r.at
+    → Represents r bytes ps → Represents new bytes ps
+cut_is r new fault bytes ps e inside short broken why at h =
+    let cut : CutAt fault.at bytes ps = (cut_at r fault.at bytes ps e inside short at h).0 in
     subst (λ (p : Progress). RepresentsAt p new.need new.at new.unit.items (state_of new) bytes ps) (sym broken)
     (subst (λ (x : CaptureReason). Faulty x fault.at bytes ps) (sym why) cut)
 

@@ -1,6 +1,10 @@
+mod Faults
 mod Fronts
 mod Represented
 mod Taking
 mod Passed
 mod Ended
 mod Once
+mod Kept
+mod Spelled
+mod Stopped

@@ -12,7 +12,7 @@ use Rattle.capture_files.specs.declared.place.Place.{Place}
 use Rattle.capture_files.specs.declared.place.Place.TheVariants as place
 use Rattle.capture_files.specs.declared.place.Place.TheVariants.{Passing}
 use Rattle.capture_files.specs.declared.place.Step.{Step}
-use Rattle.capture_files.specs.declared.place.Step.TheVariants.{Need, Moved}
+use Rattle.capture_files.specs.declared.place.Step.TheVariants.{Need, Moved, Section, Described, Packet, Refused}
 use Rattle.capture_files.specs.Runs.{PacketView, StateView, beginning, step_at, IsWhole, least_unit, Asks, IsGathered}
 use Rattle.capture_files.specs.Runs.{left_of, IsUnitOf, behind, packets_in, Leads, MayEnd, IsCapture}
 use Rattle.capture_files.specs.Steps.{step_of}
@@ -21,28 +21,41 @@ use Rattle.capture_files.proofs.Represented.{made}
 
 -- ---- units that are gathered
 
-least_is : (s : StateView) (asked : List ℕ) (u : List ℕ) → Asks s least_unit asked (length u) u → 4 ≤ length u
+pub least_is : (s : StateView) (asked : List ℕ) (u : List ℕ) → Asks s least_unit asked (length u) u → 4 ≤ length u
 least_is s [] u h = omega (arith, h)
 least_is s (m ∷ asked) u h = h.0
 
-fronts_same : (n : ℕ) (u v a b : List ℕ) → n ≤ length u → n ≤ length v → u ++ a ≡ v ++ b → take n u ≡ take n v
+pub fronts_same : (n : ℕ) (u v a b : List ℕ) → n ≤ length u → n ≤ length v → u ++ a ≡ v ++ b → take n u ≡ take n v
 fronts_same n u v a b hu hv e =
     sym (take-append-le n u a hu) ∙ ap (λ (x : List ℕ). take n x) e ∙ take-append-le n v b hv
 
-need_is : (m k : ℕ) → Need m ≡ Need k → m ≡ k
+pub need_is : (m k : ℕ) → Need m ≡ Need k → m ≡ k
 need_is m k e = cc
 
--- bytes that ask for more are no unit
-asks_no_unit : (s : StateView) (n m : ℕ) (u v a b : List ℕ) → n ≡ length u → n ≤ length v → u ++ a ≡ v ++ b
-    → step_at s (take n v) ≡ Need m → IsWhole (step_at s u) → ⊥
+-- the step asks for no more
+abbrev pub IsDone : Step → Type 0
+IsDone (Need n) = ⊥
+IsDone _ = Unit {0}
+
+pub whole_done : (x : Step) → IsWhole x → IsDone x
+whole_done (Need n) h = h
+whole_done (Moved place) h = tt
+whole_done (Section place) h = tt
+whole_done (Described place interface) h = tt
+whole_done (Packet place found) h = tt
+whole_done (Refused reason) h = tt
+
+-- bytes that ask for more are none that ask for no more
+pub asks_no_unit : (s : StateView) (n m : ℕ) (u v a b : List ℕ) → n ≡ length u → n ≤ length v → u ++ a ≡ v ++ b
+    → step_at s (take n v) ≡ Need m → IsDone (step_at s u) → ⊥
 asks_no_unit s n m u v a b len there e asks whole =
     let within : n ≤ length u = omega (arith, len) in
     let all : take n u ≡ u = take_all n u (omega (arith, len)) in
     let same : take n v ≡ u = sym (fronts_same n u v a b within there e) ∙ all in
-    subst IsWhole (sym (ap (λ (x : List ℕ). step_at s x) same) ∙ asks) whole
+    subst IsDone (sym (ap (λ (x : List ℕ). step_at s x) same) ∙ asks) whole
 
-same_length : (s : StateView) (n : ℕ) (xs ys u v a b : List ℕ) → Asks s n xs (length u) u → Asks s n ys (length v) v
-    → IsWhole (step_at s u) → IsWhole (step_at s v) → u ++ a ≡ v ++ b → length u ≡ length v
+pub same_length : (s : StateView) (n : ℕ) (xs ys u v a b : List ℕ) → Asks s n xs (length u) u → Asks s n ys (length v) v
+    → IsDone (step_at s u) → IsDone (step_at s v) → u ++ a ≡ v ++ b → length u ≡ length v
 same_length s n [] [] u v a b h k whole other e = sym h ∙ k
 same_length s n [] (m ∷ ys) u v a b h k whole other e =
     absurd (asks_no_unit s n m u v a b h k.0 e k.1.0 whole)
@@ -54,10 +67,11 @@ same_length s n (m ∷ xs) (k' ∷ ys) u v a b h k whole other e =
     need_is m k' (sym h.1.0 ∙ ap (λ (x : List ℕ). step_at s x) fronts ∙ k.1.0) in
     same_length s k' xs ys u v a b (subst (λ (x : ℕ). Asks s x xs (length u) u) same h.1.1) k.1.1 whole other e
 
-same_unit : (s : StateView) (u v a b : List ℕ) → IsGathered s u → IsGathered s v → u ++ a ≡ v ++ b → u ≡ v
+pub same_unit : (s : StateView) (u v a b : List ℕ) → IsGathered s u → IsGathered s v → u ++ a ≡ v ++ b → u ≡ v
 same_unit s u v a b g h e =
     let len : length u ≡ length v =
-    same_length s least_unit g.asked h.asked u v a b g.asks h.asks g.whole h.whole e in
+    same_length s least_unit g.asked h.asked u v a b g.asks h.asks (whole_done (step_at s u) g.whole)
+    (whole_done (step_at s v) h.whole) e in
     sym (take_all (length u) u (omega arith)) ∙ fronts_same (length u) u v a b (omega arith) (omega (arith, len)) e
     ∙ take_all (length u) v (omega (arith, len))
 
@@ -90,7 +104,7 @@ passed_unit (suc left) s u there whole few = (whole, few)
 abbrev Follows : StateView → List ℕ → List (List ℕ) → List PacketView → StateView → Step → Type 0
 Follows s u us ps t x = (later : List PacketView) × (Leads (behind s x) us later t × (ps ≡ packets_in x u ++ later))
 
-unfold_pass : (order : Order) (interface : Option Interface) (left total : ℕ) (interfaces : List Interface)
+pub unfold_pass : (order : Order) (interface : Option Interface) (left total : ℕ) (interfaces : List Interface)
     (u : List ℕ) (us : List (List ℕ)) (ps : List PacketView) (t : StateView) → 0 < left
     → Leads (made (Passing order interface left total) interfaces) (u ∷ us) ps t
     → Passes order interface left total interfaces u us ps t
@@ -161,7 +175,7 @@ longer_is u v a b le e =
     ap (λ (x : List ℕ). x ++ drop (length u) v) (sym front) ∙ take-append-drop (length u) v
 
 -- the rest of the longer unit is a unit behind the shorter
-rest_passes : (order : Order) (interface : Option Interface) (left total : ℕ) (interfaces : List Interface)
+pub rest_passes : (order : Order) (interface : Option Interface) (left total : ℕ) (interfaces : List Interface)
     (n : ℕ) (v : List ℕ) (vs : List (List ℕ)) (qs : List PacketView) (r : StateView) → n < length v
     → Passes order interface left total interfaces v vs qs r
     → Leads (made (Passing order interface (left - n) total) interfaces) (drop n v ∷ vs) qs r
@@ -174,7 +188,7 @@ rest_passes order interface left total interfaces n v vs qs r lt h =
       later = subst (λ (x : ℕ). Leads (made (Passing order interface x total) interfaces) vs qs r) left_is h.later;
     })
 
-rest_same : (u v a b : List ℕ) → length u ≤ length v → u ++ a ≡ v ++ b → a ≡ drop (length u) v ++ b
+pub rest_same : (u v a b : List ℕ) → length u ≤ length v → u ++ a ≡ v ++ b → a ≡ drop (length u) v ++ b
 rest_same u v a b le e =
     append_cancel_left u a (drop (length u) v ++ b)
     (e ∙ ap (λ (x : List ℕ). x ++ b) (sym (longer_is u v a b le e)) ∙ append_assoc u (drop (length u) v) b)

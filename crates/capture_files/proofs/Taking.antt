@@ -14,6 +14,7 @@ use Rattle.capture_files.specs.Private.Moves.{Enters, Looks, IsSettled, LetsGo}
 use Rattle.capture_files.specs.Represents.{state_of, waits_at, Holds, Waits, Faulty, RepresentsAt, Represents}
 use Rattle.capture_files.specs.Represents.{Takes}
 use Rattle.capture_files.specs.Runs.{PacketView, least_unit, capped, RefusedAt, CutAt}
+use Rattle.capture_files.proofs.Faults.{not_waiting, not_gathering}
 use Rattle.capture_files.proofs.Fronts.{asks_longer}
 use Rattle.capture_files.proofs.Represented.{entered, further}
 
@@ -43,6 +44,8 @@ pub let_go_is : (old new : CaptureReader) (found : Found) → old.progress ≡ W
     → Enters new old.place old.interfaces.items (capped (old.at + length old.unit.items)) → LetsGo old new
 let_go_is old new found wait e = record {
   settled = subst IsSettled (sym e.open_is) tt;
+  still = λ fault h. not_waiting old found fault wait h;
+  before = λ fault h. not_gathering new fault e.open_is h;
   represents = λ bytes ps h.
       let waits : Waits old.at old.unit.items (state_of old) bytes ps =
       subst (λ (p : Progress). RepresentsAt p old.need old.at old.unit.items (state_of old) bytes ps) wait h in
@@ -84,7 +87,7 @@ takes_then first mid new n m piece e one two = λ bytes ps h.
     subst (λ (x : List ℕ). Represents new x (ps ++ waits_at new.progress new.unit.items)) both
     (two (bytes ++ take n piece) ps held)
 
-refused_more : (at : ℕ) (bytes more : List ℕ) (ps : List PacketView) (x : CaptureReason)
+pub refused_more : (at : ℕ) (bytes more : List ℕ) (ps : List PacketView) (x : CaptureReason)
     → RefusedAt at bytes ps (Refused x) → RefusedAt at (bytes ++ more) ps (Refused x)
 refused_more at bytes more ps x h = record {
   whole = h.whole;

@@ -11,4 +11,6 @@ pub mod Gathers
 pub mod Fields
 pub mod Runs
 pub mod Represents
+pub mod Faults
+pub mod Spelled
 pub mod Private

@@ -81,6 +81,22 @@ RepresentsAt (Broken fault) need at unit s bytes ps = Faulty fault.reason fault.
 abbrev pub Represents : CaptureReader → List ℕ → List PacketView → Type 0
 Represents r bytes ps = RepresentsAt r.progress r.need r.at r.unit.items (state_of r) bytes ps
 
+-- the bytes that are kept: of the unit at work, or of the one whose packet waits
+abbrev pub kept_of : CaptureReader → List ℕ
+kept_of r = r.unit.items
+
+-- What is kept of the bytes that were taken. While a unit is gathered: what they have behind whole units, with all their
+-- packets. While a packet waits: their last unit, which has it. Nothing is said of a file that is refused.
+abbrev pub KeptAt : Progress → (kept bytes : List ℕ) → List PacketView → Type 0
+KeptAt Gathering kept bytes ps =
+    (whole : List ℕ) × (s : StateView) × Front whole ps s × (bytes ≡ whole ++ kept)
+KeptAt (Waiting found) kept bytes ps = (before : List ℕ) × (bytes ≡ before ++ kept)
+KeptAt (Broken fault) kept bytes ps = Unit {0}
+
+-- the same of a reader, whatever bytes it has taken
+abbrev pub Keeps : CaptureReader → Type 0
+Keeps r = (bytes : List ℕ) (ps : List PacketView) → Represents r bytes ps → KeptAt r.progress (kept_of r) bytes ps
+
 -- taking bytes brings no packet, or one that waits
 abbrev pub Takes : CaptureReader → CaptureReader → List ℕ → Type 0
 Takes old new taken = (bytes : List ℕ) (ps : List PacketView) → Represents old bytes ps

@@ -9,6 +9,7 @@ use Rattle.capture_files.specs.declared.place.Place.{Place}
 use Rattle.capture_files.specs.declared.place.Place.TheVariants.{Start, Record, Block, Passing}
 use Rattle.capture_files.specs.declared.place.Step.{Step}
 use Rattle.capture_files.specs.declared.place.Step.TheVariants.{Need, Moved, Section, Described, Packet, Refused}
+use Rattle.capture_files.specs.declared.reason.CaptureReason.{CaptureReason}
 use Rattle.capture_files.specs.Steps.{step_of}
 
 -- a packet: the type of its link, its time in units of a resolution, its length on the link, and what was captured
@@ -152,3 +153,13 @@ pub record CutAt (at : ℕ) (bytes : List ℕ) (ps : List PacketView) : Type 0 w
 -- A file has one list of packets.
 abbrev pub OneReading : Type 0
 OneReading = (bytes : List ℕ) (ps qs : List PacketView) → IsCapture bytes ps → IsCapture bytes qs → ps ≡ qs
+
+-- No file is refused for what its bytes say, nor is a beginning of one.
+abbrev pub NothingIsRefused : Type 0
+NothingIsRefused = (at : ℕ) (bytes later : List ℕ) (ps qs : List PacketView) (why : CaptureReason)
+    → IsCapture (bytes ++ later) ps → RefusedAt at bytes qs (Refused why) → ⊥
+
+-- No file is cut: it does not end inside of a unit.
+abbrev pub NothingIsCut : Type 0
+NothingIsCut = (at : ℕ) (bytes : List ℕ) (ps qs : List PacketView) (cut : CutAt at bytes qs) → cut.more ≡ []
+    → IsCapture bytes ps → ⊥

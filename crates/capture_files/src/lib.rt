@@ -27,6 +27,6 @@ mod step;
 
 pub use captured::{Captured, Interface};
 pub use fault::{CaptureFault, CaptureStep};
-pub use laws::a_file_has_one_reading;
+pub use laws::{a_file_has_one_reading, a_file_is_not_refused, spelled_files_are_read};
 pub use reader::CaptureReader;
 pub use reason::CaptureReason;

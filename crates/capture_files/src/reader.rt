@@ -38,12 +38,16 @@ pub struct CaptureReader {
 impl CaptureReader {
     ghost use Rattle.std.specs.Prelude.{◌≡◌, [], length, take, option_map, IfSome};
     ghost use Rattle.capture_files.specs.Represents.{Represents, captured_view, waiting, Takes, used_of, Reports, Ends};
+    ghost use Rattle.capture_files.specs.Represents.{kept_of, Keeps};
+    ghost use Rattle.capture_files.specs.Faults.{RefusesPiece, RefusesEnd};
     ghost use Rattle.capture_files.specs.Private.Moves.{LetsGo};
 
     /// A reader before the first byte of a file.
     pub fn start(alloc: Global) -> Self
         // It has taken no bytes, and they have no packets.
-        ensures { Represents result [] [] }
+        ensures represents { Represents result [] [] }
+        // It waits for bytes: no packet waits, and no fault was answered.
+        ensures gathers { result.progress ≡ Progress.Gathering }
     {
         CaptureReader {
             place: Place::Start,
@@ -58,13 +62,15 @@ impl CaptureReader {
 
     /// Takes the bytes of a piece, which may be empty, up to the end of a packet. `More`: all were taken. `Packet`: a
     /// packet waits, and the first `used` bytes were taken, which end with its last byte; the next call lets it go. A
-    /// fault takes the whole piece and is answered for ever after.
+    /// fault takes the whole piece and is answered for ever after. `Truncated` comes only of `end`.
     pub fn feed(&mut self, piece: &[u8]) -> Result<CaptureStep, CaptureFault>
         ensures used { used_of result (length piece.now) ≤ length piece.now }
         // What all bytes that were ever taken are, and which packets they have.
         ensures takes { Takes self.old self.new (take (used_of result (length piece.now)) piece.now) }
         // A packet waits exactly where the answer says so.
         ensures reports { Reports result self.new.progress }
+        // A fault stays, and a new one never says that the file is cut.
+        ensures refused { RefusesPiece self.old self.new result }
     {
         self.let_go();
         let mut used = 0;
@@ -101,17 +107,23 @@ impl CaptureReader {
         }
     }
 
-    /// How many bytes of the file are kept: never more than 262172.
+    /// How many bytes of the file are kept, those of the unit at work or of the packet that waits: at most 262172.
     pub fn retained(&self) -> usize
-        ensures { result ≤ most_unit }
+        ensures kept { result ≡ length (kept_of self.now) }
+        // These are the last of the bytes that were taken.
+        ensures keeps { Keeps self.now }
+        ensures most { result ≤ most_unit }
     {
         self.unit.len()
     }
 
     /// Ends the file: well between two records or blocks. Inside of one it is `Truncated`, at the place of that one,
-    /// for ever after, and an earlier fault is answered again. A packet that waits is let go.
+    /// for ever after, and an earlier fault is answered again. A packet that waits is let go. No memory is taken, so
+    /// `NoMemory` comes only where it was answered before.
     pub fn end(&mut self) -> Result<(), CaptureFault>
-        ensures { Ends self.old self.new result }
+        ensures ends { Ends self.old self.new result }
+        // A fault stays, and a new one says that the file is cut.
+        ensures refused { RefusesEnd self.old self.new result }
     {
         self.let_go();
         match self.progress {

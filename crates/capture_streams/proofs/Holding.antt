@@ -1,5 +1,5 @@
 -- Pieces that share no place: what they have at each.
-use Rattle.std.proofs.Common.{◌≡◌, ℕ, ◌+◌, ◌≤◌, List, [], ◌∷◌, Option, Some, None}
+use Rattle.std.proofs.Common.{◌≡◌, ℕ, ◌+◌, ◌-◌, ◌<◌, ◌≤◌, ◌⊎◌, min, List, [], ◌∷◌, Option, Some, None}
 use Rattle.std.proofs.Common.{is_some, true, IsSome, IfSome, slice_get}
 use Rattle.std.proofs.Common.{refl, sym, ap, subst, ◌∙◌, inl, inr, arith, false, eqb, ltb}
 use Rattle.std.proofs.lemmas.Bool.{cases_eq, cases_lt, cases_order, lt-ltb, le-ltb, eq-eqb, ne_eqb}
@@ -13,7 +13,7 @@ use Rattle.capture_streams.specs.declared.piece.Piece.{Piece}
 use Rattle.capture_streams.specs.declared.stretch.Stretch.{Stretch}
 use Rattle.capture_streams.specs.declared.stretch.Stretch.TheVariants as stretch
 use Rattle.capture_streams.specs.Segments.{byte_from}
-use Rattle.capture_streams.specs.Held.{Holds, HoldsAt, IsHeld, IsPiece, AreApart, StandFrom}
+use Rattle.capture_streams.specs.Held.{Holds, HoldsAt, IsHeld, IsGap, IsPiece, AreApart, StandFrom}
 use Rattle.capture_streams.specs.Private.Pieces.{EachPlace, IsStretch}
 use Rattle.capture_streams.proofs.Bytes.{none_is_not, byte_from-some, byte_from-low, byte_from-high}
 
@@ -98,6 +98,20 @@ gap_stretch m at l n v a next few = λ p low high b h.
           omega arith
     ]
 
+-- behind a gap a place has a byte, where it is not as long as it may be
+pub gap_ends : (m : BTreeMap ℕ Piece) (at l most n : ℕ) (v : Piece) → AreApart m → IsNext m at l v → at < v.at
+    → n ≡ min (v.at - at) most → (n ≡ most) ⊎ IsHeld m (at + n)
+gap_ends m at l most n v a next ahead least =
+    elim (cases_lt (v.at - at) most) [
+      | inl less ↦
+          let whole = a.whole l v next.there in
+          let r = piece_has l v.at v whole (omega arith) (begins_low l v whole) in
+          let held : IsHeld m v.at = (r.0, record { last = l; piece = v; there = next.there; gives = r.1 }) in
+          let here : v.at ≡ at + n = omega arith in
+          inr (subst (λ (p : ℕ). IsHeld m p) here held)
+      | inr more ↦ inl (omega arith)
+    ]
+
 pub empty_stretch : (m : BTreeMap ℕ Piece) (at n : ℕ) → AreApart m
     → ((q : ℕ) → at ≤ q → get nat_cmp m q ≡ None) → EachPlace at n (λ p. HoldsAt m p None)
 empty_stretch m at n a none = λ p low high b h.
@@ -150,6 +164,17 @@ same_holds m n p e None h = λ b k.
     h b (record { last = k.last; piece = k.piece; there = sym (same_get m n e k.last) ∙ k.there; gives = k.gives })
 same_holds m n p e (Some b) h =
     record { last = h.last; piece = h.piece; there = same_get m n e h.last ∙ h.there; gives = h.gives }
+
+pub same_gap : (m n : BTreeMap ℕ Piece) (at most k : ℕ) → n.entries ≡ m.entries → IsGap m at most k → IsGap n at most k
+same_gap m n at most k e g = record {
+  some = g.some;
+  few = g.few;
+  none = λ p low high. same_holds m n p e None (g.none p low high);
+  ends = elim g.ends [
+    | inl all ↦ inl all
+    | inr h ↦ inr (h.0, same_holds m n (at + k) e (Some h.0) h.1)
+  ];
+}
 
 pub same_from : (m n : BTreeMap ℕ Piece) (due : ℕ) → n.entries ≡ m.entries → StandFrom due m → StandFrom due n
 same_from m n due e from = λ l v h. from l v (sym (same_get m n e l) ∙ h)

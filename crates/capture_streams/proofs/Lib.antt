@@ -8,4 +8,6 @@ pub mod Stepping
 pub mod Given
 pub mod Delivering
 pub mod Skipping
+pub mod Wanting
+pub mod Counting
 pub mod Numbers

@@ -1,5 +1,5 @@
 -- What pieces that are held give at each place. Each is kept under the place of its last byte.
-use Rattle.std.specs.Prelude.{◌≡◌, ℕ, ◌+◌, ◌^◌, ◌<◌, ◌≤◌, length, Option, Some, None}
+use Rattle.std.specs.Prelude.{◌≡◌, ℕ, ◌+◌, ◌^◌, ◌<◌, ◌≤◌, ◌⊎◌, length, Option, Some, None}
 use Rattle.std.specs.BTreeMap.{BTreeMap, get}
 use Rattle.std.specs.List.{sum_by}
 use Rattle.std.specs.Map.{values_of}
@@ -34,6 +34,14 @@ pub record AreApart (m : BTreeMap ℕ Piece) : Type 0 where
   pub whole : (last : ℕ) (piece : Piece) → get nat_cmp m last ≡ Some piece → IsPiece last piece
   pub apart : (last later : ℕ) (piece other : Piece) → get nat_cmp m last ≡ Some piece
       → get nat_cmp m later ≡ Some other → last < later → last < other.at
+
+-- Of bytes that stand from a place on, so many, the first n would be one piece: no place of them has a byte, and behind
+-- them these bytes end, or a place has one.
+pub record IsGap (m : BTreeMap ℕ Piece) (at most n : ℕ) : Type 0 where
+  pub some : 0 < n
+  pub few : n ≤ most
+  pub none : (place : ℕ) → at ≤ place → place < at + n → HoldsAt m place None
+  pub ends : (n ≡ most) ⊎ IsHeld m (at + n)
 
 -- each piece begins at this place or behind it
 abbrev pub StandFrom : (due : ℕ) → BTreeMap ℕ Piece → Type 0

@@ -6,6 +6,7 @@ use Rattle.capture_streams.specs.declared.refusal.Refusal.{Refusal}
 use Rattle.capture_streams.specs.declared.refusal.Refusal.TheVariants as refusal
 use Rattle.capture_streams.specs.declared.side.Ending.{Ending}
 use Rattle.capture_streams.specs.declared.side.Ending.TheVariants as ending
+use Rattle.capture_streams.specs.Held.{IsGap}
 use Rattle.capture_streams.specs.Segments.{Arrival, given, lead_of}
 use Rattle.capture_streams.specs.Represents.{Stands, due_of, held_of, limit_of}
 
@@ -43,12 +44,26 @@ pub record HandsOn (old new : Direction) (out out' : List ℕ) : Type 0 where
 abbrev pub IsAhead : Direction → (sequence : ℕ) → Type 0
 IsAhead d sequence = 2 ^ 31 < lead_of d.first d.due sequence
 
--- When a segment is refused, or its bytes from one on: for the limit only where it begins ahead, and what it is to hold
--- would bring the direction above it; for want of places only behind place 2^62.
+-- the place of the first byte of such a segment
+abbrev pub begin_ahead : Direction → (sequence : ℕ) → ℕ
+begin_ahead d sequence = d.due + lead_of d.first d.due sequence - 2 ^ 31
+
+-- Behind its first bytes, so many, which count as taken, the next n of a segment that begins ahead are the piece that
+-- would be held.
+abbrev pub IsNextPiece : (old new : Direction) → (sequence : ℕ) → (bytes : List ℕ) → (taken n : ℕ) → Type 0
+IsNextPiece old new sequence bytes taken n =
+    IsGap new.pieces.by_last (begin_ahead old sequence + taken) (length bytes - taken) n
+
+-- When a segment is refused, or its bytes from one on. For the limit: it begins ahead, and with the next piece of it the
+-- direction would count more. For want of memory: all was taken, or it does not begin ahead, or with that piece the
+-- direction would count no more. For want of places: the due one is behind place 2^62.
 abbrev pub RefusedFor : (old new : Direction) → (sequence : ℕ) → (bytes : List ℕ) → Refusal → Type 0
 RefusedFor old new sequence bytes (refusal.Full taken) =
-    (taken < length bytes) × IsAhead old sequence × (limit_of new < held_of new + (length bytes - taken) + 128)
-RefusedFor old new sequence bytes (refusal.NoMemory taken) = taken ≤ length bytes
+    (taken < length bytes) × IsAhead old sequence
+    × ((n : ℕ) × IsNextPiece old new sequence bytes taken n × (limit_of new < held_of new + n + 128))
+RefusedFor old new sequence bytes (refusal.NoMemory taken) =
+    (taken ≤ length bytes) × (taken < length bytes → IsAhead old sequence
+    → (n : ℕ) × IsNextPiece old new sequence bytes taken n × (held_of new + n + 128 ≤ limit_of new))
 RefusedFor old new sequence bytes refusal.PlacesEnd = (2 ^ 62 < due_of old) × (new ≡ old)
 
 -- the places that were due have no byte, the one that is has one, and nothing was handed on since

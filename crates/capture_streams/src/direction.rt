@@ -32,7 +32,7 @@ impl Direction {
     ghost use Rattle.std.specs.Prelude.{◌≡◌, ℕ, ◌+◌, ◌-◌, ◌^◌, ◌<◌, ◌≤◌, ◌↔◌, [], Some, None, length, Err, OnOk};
     ghost use Rattle.std.specs.Prelude.{OnErr, IfErr, IsTrue};
     ghost use Rattle.capture_streams.specs.Represents.{Stands, IsAtHole, IsOfSame, first_of, due_of, limit_of};
-    ghost use Rattle.capture_streams.specs.Represents.{held_of, cost_in};
+    ghost use Rattle.capture_streams.specs.Represents.{held_of, cost_in, HoldsWhatCame};
     ghost use Rattle.capture_streams.specs.Taking.{Takes, HandsOn, Skips, RefusedFor, taken_part, IsEnding};
     ghost use Rattle.capture_streams.specs.Private.Steps.{IsSide};
 
@@ -58,12 +58,15 @@ impl Direction {
         self.due
     }
 
-    /// How much is held behind holes: each piece counts as its bytes and 128 more. It never passes the limit.
+    /// How much is held behind holes: each piece counts as its bytes and 128 more. It never passes the limit, and is 0
+    /// exactly where nothing is held.
     pub fn held(&self) -> usize
         ensures count { result ≡ held_of self.now }
         // That is what the bytes held count, and 128 for each piece of them.
         ensures cost { result ≡ cost_in self.now }
         ensures within { result ≤ limit_of self.now }
+        // Those are the bytes that came and were not handed on.
+        ensures given { HoldsWhatCame self.now result }
     {
         self.pieces.held()
     }

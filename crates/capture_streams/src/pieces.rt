@@ -1,4 +1,7 @@
 //! The bytes behind a hole, as pieces.
+ghost use Rattle.std.proofs.Props.{props};
+ghost use Rattle.std.specs.BTreeMap.{IsOrdered};
+ghost use Rattle.std.specs.Ordering.{nat_cmp};
 ghost use Rattle.std.specs.Prelude.{◌≡◌, ◌≤◌};
 ghost use Rattle.capture_streams.specs.Held.{AreApart, cost_of};
 
@@ -24,6 +27,7 @@ pub(crate) struct Pieces {
     ghost apart: { AreApart by_last },
     ghost counted: { held ≡ cost_of by_last },
     ghost within: { held ≤ limit },
+    ghost ordered: { IsOrdered nat_cmp by_last } by { Prim.hlevel props },
 }
 
 impl Pieces {
@@ -32,7 +36,7 @@ impl Pieces {
     ghost use Rattle.std.specs.Ordering.{nat_cmp};
     ghost use Rattle.capture_streams.specs.Held.{HoldsAt, StandFrom, cost_of};
     ghost use Rattle.capture_streams.specs.Private.Pieces.{IsStretch, Puts, Fills, FillsNext, FillsSome};
-    ghost use Rattle.capture_streams.specs.Private.Pieces.{IsFirst, HasFirst, Drops, WantedFor};
+    ghost use Rattle.capture_streams.specs.Private.Pieces.{IsFirst, HasFirst, Drops, WantedFor, WantedNext};
 
     /// No pieces.
     pub(crate) fn new(alloc: Global, limit: usize) -> Pieces
@@ -99,7 +103,7 @@ impl Pieces {
         requires some { 0 < length bytes.now }
         requires fits { at + length bytes.now + 1 < 2 ^ 64 }
         ensures ok { IfOk result (λ n. FillsNext self.old.by_last self.new.by_last at n bytes.now) }
-        ensures refused { IfErr result (WantedFor self.old self.new (length bytes.now)) }
+        ensures refused { IfErr result (WantedNext self.old self.new at (length bytes.now)) }
         ensures limit { self.new.limit ≡ self.old.limit }
     {
         match self.stretch_at(at, bytes.len()) {

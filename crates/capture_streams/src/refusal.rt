@@ -8,10 +8,11 @@ use thiserror::Error;
 /// come with these alone, and the others as though they had not come.
 #[derive(Clone, Copy, Debug, PartialEq, Eq, Error)]
 pub enum Refusal {
-    /// They stand behind a hole, and holding them would pass the limit.
+    /// They stand behind a hole. Holding the next of them, up to a place that has a byte or to the last, would pass the
+    /// limit.
     #[error("too many bytes are held behind a hole")]
     Full { taken: usize },
-    /// Memory was refused.
+    /// Memory was refused, and the limit would not be passed.
     #[error("out of memory")]
     NoMemory { taken: usize },
     /// The direction has more than 2^62 places.

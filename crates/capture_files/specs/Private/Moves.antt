@@ -1,6 +1,6 @@
 -- Where the fields of a reader go: steps between the code and what the public contracts say, and none of them names
 -- any.
-use Rattle.std.specs.Prelude.{◌≡◌, ℕ, ◌+◌, ◌<◌, ◌⊎◌, List, [], ◌∷◌, ◌++◌, length}
+use Rattle.std.specs.Prelude.{◌≡◌, ◌≢◌, ℕ, ◌+◌, ◌<◌, ◌⊎◌, List, [], ◌∷◌, ◌++◌, length}
 use Rattle.capture_files.specs.declared.captured.Found.{Found}
 use Rattle.capture_files.specs.declared.captured.Interface.{Interface}
 use Rattle.capture_files.specs.declared.fault.CaptureFault.{CaptureFault}
@@ -11,7 +11,8 @@ use Rattle.capture_files.specs.declared.progress.Progress.{Progress}
 use Rattle.capture_files.specs.declared.progress.Progress.TheVariants.{Gathering, Waiting, Broken}
 use Rattle.capture_files.specs.declared.reader.CaptureReader.{CaptureReader}
 use Rattle.capture_files.specs.declared.reason.CaptureReason.{CaptureReason}
-use Rattle.capture_files.specs.declared.reason.CaptureReason.TheVariants.{NoMemory}
+use Rattle.capture_files.specs.declared.reason.CaptureReason.TheVariants.{NoMemory, Truncated}
+use Rattle.capture_files.specs.Faults.{IsRefused}
 use Rattle.capture_files.specs.Represents.{state_of, waits_at, Represents}
 use Rattle.capture_files.specs.Runs.{PacketView, least_unit, Asks, Front, MayEnd, capped}
 
@@ -82,7 +83,14 @@ abbrev pub IsSettled : Progress → Type 0
 IsSettled (Waiting found) = ⊥
 IsSettled _ = Unit {0}
 
+-- no fault says that the file is cut
+abbrev pub IsUncut : Progress → Type 0
+IsUncut (Broken fault) = fault.reason ≢ Truncated
+IsUncut _ = Unit {0}
+
 -- the packet that waited is let go, and nothing else changes
 pub record LetsGo (old new : CaptureReader) : Type 0 where
   pub settled : IsSettled new.progress
+  pub still : (fault : CaptureFault) → IsRefused old fault → IsRefused new fault
+  pub before : (fault : CaptureFault) → IsRefused new fault → IsRefused old fault
   pub represents : (bytes : List ℕ) (ps : List PacketView) → Represents old bytes ps → Represents new bytes ps

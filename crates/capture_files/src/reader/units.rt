@@ -14,7 +14,9 @@ impl CaptureReader {
     ghost use Rattle.capture_files.specs.Gathers.{Gathers};
     ghost use Rattle.capture_files.specs.Represents.{Takes, Ends};
     ghost use Rattle.capture_files.specs.Runs.{left_of, capped};
+    ghost use Rattle.capture_files.specs.Faults.{RefusesEnd};
     ghost use Rattle.capture_files.specs.Private.Moves.{Enters, Describes, Goes, Looks, IsBetween, IsInside};
+    ghost use Rattle.capture_files.specs.Private.Moves.{IsUncut};
 
     /// Whether the file may end here.
     fn is_between(&self) -> bool
@@ -33,7 +35,8 @@ impl CaptureReader {
     /// Ends the file while a unit is gathered.
     pub(super) fn end_unit(&mut self) -> Result<(), CaptureFault>
         requires { self.old.progress ≡ Progress.Gathering }
-        ensures { Ends self.old self.new result }
+        ensures ends { Ends self.old self.new result }
+        ensures refused { RefusesEnd self.old self.new result }
     {
         if self.is_between() {
             return Ok(());
@@ -48,6 +51,7 @@ impl CaptureReader {
         ensures some { 0 < result }
         ensures few { result ≤ length rest.now }
         ensures takes { Takes self.old self.new (take result rest.now) }
+        ensures uncut { IsUncut self.new.progress }
     {
         match self.place {
             Place::Passing {
@@ -84,6 +88,7 @@ impl CaptureReader {
         ensures some { 0 < result }
         ensures few { result ≤ length rest.now }
         ensures takes { Takes self.old self.new (take result rest.now) }
+        ensures uncut { IsUncut self.new.progress }
     {
         let mut unit = mem::replace(&mut self.unit, Vec::new(self.alloc));
         let count = (self.need - unit.len()).min(rest.len());
@@ -104,7 +109,8 @@ impl CaptureReader {
         requires fits { vec_len unit ≤ self.old.need }
         requires open { self.old.progress ≡ Progress.Gathering }
         requires here { left_of self.old.place ≡ 0 }
-        ensures { Looks self.old self.new unit.items }
+        ensures looks { Looks self.old self.new unit.items }
+        ensures uncut { IsUncut self.new.progress }
     {
         if unit.len() < self.need {
             self.unit = unit;

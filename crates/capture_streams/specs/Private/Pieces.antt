@@ -1,5 +1,5 @@
 -- What the calls of pieces do.
-use Rattle.std.specs.Prelude.{◌≡◌, ℕ, ◌+◌, ◌-◌, ◌<◌, ◌≤◌, List, length, take, Option, Some, None, IsSome}
+use Rattle.std.specs.Prelude.{◌≡◌, ℕ, ◌+◌, ◌-◌, ◌<◌, ◌≤◌, ◌⊎◌, List, length, take, Option, Some, None, IsSome}
 use Rattle.std.specs.BTreeMap.{BTreeMap, get}
 use Rattle.std.specs.Option.{option_or}
 use Rattle.std.specs.Ordering.{nat_cmp}
@@ -12,16 +12,18 @@ use Rattle.capture_streams.specs.declared.refusal.Want.TheVariants as want
 use Rattle.capture_streams.specs.declared.stretch.Stretch.{Stretch}
 use Rattle.capture_streams.specs.declared.stretch.Stretch.TheVariants as stretch
 use Rattle.capture_streams.specs.Segments.{byte_from}
-use Rattle.capture_streams.specs.Held.{HoldsAt, IsHeld}
+use Rattle.capture_streams.specs.Held.{HoldsAt, IsHeld, IsGap}
 use Rattle.capture_streams.specs.Taking.{taken_of}
 
 -- each place from `at` on, so many, meets P
 abbrev pub EachPlace : (at n : ℕ) → (ℕ → Type 0) → Type 0
 EachPlace at n P = (place : ℕ) → at ≤ place → place < at + n → P place
 
--- at least one place, at most so many, and each with a byte or each without
+-- At least one place, at most so many, and each with a byte or each without. Without, they are all up to the next that
+-- has one.
 abbrev pub IsStretch : BTreeMap ℕ Piece → (at most : ℕ) → Stretch → Type 0
-IsStretch m at most (stretch.Gap n) = (0 < n) × (n ≤ most) × EachPlace at n (λ p. HoldsAt m p None)
+IsStretch m at most (stretch.Gap n) =
+    (0 < n) × (n ≤ most) × EachPlace at n (λ p. HoldsAt m p None) × ((n ≡ most) ⊎ IsHeld m (at + n))
 IsStretch m at most (stretch.Held n) = (0 < n) × (n ≤ most) × EachPlace at n (λ p. IsHeld m p)
 
 -- Where a place had a byte it keeps it, and else it has that of these bytes, if any.
@@ -45,25 +47,31 @@ pub record FillsNext (old new : BTreeMap ℕ Piece) (at n : ℕ) (bytes : List �
   pub fills : Fills old new at (take n bytes)
   pub from : BeginFrom old new at
 
--- why a piece of so many bytes at most was not put: nothing has changed
+-- why a piece of so many bytes was not put, and nothing has changed: it would pass the limit, or memory was refused
 abbrev pub WantedFor : (old new : Pieces) → (count : ℕ) → Want → Type 0
 WantedFor old new count want.Space =
     (new ≡ old) × (new.limit < new.held + count + 128)
 WantedFor old new count want.Memory =
-    (new.limit ≡ old.limit) × (new.by_last.entries ≡ old.by_last.entries)
+    (new.limit ≡ old.limit) × (new.by_last.entries ≡ old.by_last.entries) × (new.held ≡ old.held)
+    × (new.held + count + 128 ≤ new.limit)
 
--- why bytes from one on were not held
-abbrev pub FillWanted : (new : Pieces) → List ℕ → Refusal → Type 0
-FillWanted new bytes (refusal.Full taken) =
-    (taken < length bytes) × (new.limit < new.held + (length bytes - taken) + 128)
-FillWanted new bytes (refusal.NoMemory taken) = Unit {0}
-FillWanted new bytes refusal.PlacesEnd = ⊥
+-- the same of the next of so many bytes from a place on, as one piece
+abbrev pub WantedNext : (old new : Pieces) → (at most : ℕ) → Want → Type 0
+WantedNext old new at most w = (n : ℕ) × IsGap old.by_last at most n × WantedFor old new n w
+
+-- why bytes from one on were not held: with the next of them, as one piece, the limit is passed, or it is not
+abbrev pub FillWanted : (new : Pieces) → (at : ℕ) → List ℕ → Refusal → Type 0
+FillWanted new at bytes (refusal.Full taken) =
+    (n : ℕ) × IsGap new.by_last (at + taken) (length bytes - taken) n × (new.limit < new.held + n + 128)
+FillWanted new at bytes (refusal.NoMemory taken) =
+    (n : ℕ) × IsGap new.by_last (at + taken) (length bytes - taken) n × (new.held + n + 128 ≤ new.limit)
+FillWanted new at bytes refusal.PlacesEnd = ⊥
 
 -- the bytes before the one that was refused are there
 pub record FillsSome (old new : Pieces) (at : ℕ) (bytes : List ℕ) (r : Refusal) : Type 0 where
-  pub few : taken_of r ≤ length bytes
+  pub few : taken_of r < length bytes
   pub fills : Fills old.by_last new.by_last at (take (taken_of r) bytes)
-  pub wanted : FillWanted new bytes r
+  pub wanted : FillWanted new at bytes r
 
 -- the piece with the least last place
 pub record IsFirst (m : BTreeMap ℕ Piece) (last : ℕ) (piece : Piece) : Type 0 where

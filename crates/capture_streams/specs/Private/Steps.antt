@@ -1,13 +1,15 @@
 -- The steps of a direction, over whatever bytes its places have.
-use Rattle.std.specs.Prelude.{◌≡◌, ℕ, ◌+◌, ◌-◌, ◌^◌, ◌<◌, ◌≤◌, List, ◌++◌, length, Option}
+use Rattle.std.specs.Prelude.{◌≡◌, ℕ, ◌+◌, ◌^◌, ◌<◌, ◌≤◌, List, ◌++◌, length, Option}
 use Rattle.std.specs.Option.{option_or}
 use Rattle.capture_streams.specs.declared.direction.Direction.{Direction}
+use Rattle.capture_streams.specs.declared.pieces.Pieces.{Pieces}
 use Rattle.capture_streams.specs.declared.refusal.Refusal.{Refusal}
 use Rattle.capture_streams.specs.declared.refusal.Refusal.TheVariants as refusal
 use Rattle.capture_streams.specs.declared.side.Side.{Side}
 use Rattle.capture_streams.specs.declared.side.Side.TheVariants as side
 use Rattle.capture_streams.specs.Segments.{byte_from, lead_of}
 use Rattle.capture_streams.specs.Represents.{Represents}
+use Rattle.capture_streams.specs.Private.Pieces.{FillWanted}
 
 -- these bytes from a place on, where a place has none
 abbrev pub patched : (ℕ → Option ℕ) → (at : ℕ) → List ℕ → ℕ → Option ℕ
@@ -46,12 +48,13 @@ pub record Steps (old new : Direction) (at : ℕ) (bytes out out' : List ℕ) : 
   pub appended : out' ≡ out ++ handed
   pub moves : Moves old new at bytes handed
 
--- why bytes ahead of the due place were refused, from one on
-abbrev pub RefusedAhead : (new : Direction) → List ℕ → Refusal → Type 0
-RefusedAhead new bytes (refusal.Full taken) =
-    (taken < length bytes) × (new.pieces.limit < new.pieces.held + (length bytes - taken) + 128)
-RefusedAhead new bytes (refusal.NoMemory taken) = taken ≤ length bytes
-RefusedAhead new bytes refusal.PlacesEnd = ⊥
+-- why bytes from a place ahead of the due one were refused, from one on
+abbrev pub RefusedAhead : (new : Pieces) → (at : ℕ) → List ℕ → Refusal → Type 0
+RefusedAhead new at bytes (refusal.Full taken) =
+    (taken < length bytes) × FillWanted new at bytes (refusal.Full taken)
+RefusedAhead new at bytes (refusal.NoMemory taken) =
+    (taken ≤ length bytes) × (taken < length bytes → FillWanted new at bytes (refusal.NoMemory taken))
+RefusedAhead new at bytes refusal.PlacesEnd = ⊥
 
 -- bytes at the due place are refused for want of memory alone
 abbrev pub RefusedAtDue : List ℕ → Refusal → Type 0

@@ -39,7 +39,7 @@ impl Direction {
         ensures steps { Steps self.old self.new (self.old.due + distance) (taken_part result bytes.now)
             out.old.items out.new.items }
         ensures whole { OnOk result (IsAtHole self.new) }
-        ensures refused { IfErr result (RefusedAhead self.new bytes.now) }
+        ensures refused { IfErr result (RefusedAhead self.new.pieces (self.old.due + distance) bytes.now) }
     {
         self.pieces.fill(self.due + u64::from(distance), bytes)?;
         match self.pop_all(out) {

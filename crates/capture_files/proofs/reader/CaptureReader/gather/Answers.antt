@@ -12,7 +12,7 @@ returns-in-Ok-clause-takes c =
     let all : c.extend_from_slice.new.self.items ≡ self.unit.items ++ taken =
     first_of (search rules, grind (arith, common_steps)) in
     looked self c.look.new.self taken c.requires.open
-    (subst (λ (x : List ℕ). Looks self c.look.new.self x) all c.look.ensures)
+    (subst (λ (x : List ℕ). Looks self c.look.new.self x) all c.look.ensures.looks)
 
 pub returns-in-Err-clause-takes : goal.returns-in-Err-clause-takes
 returns-in-Err-clause-takes c = λ bytes ps h.

@@ -12,7 +12,7 @@ invariant_of-self c =
     c.requires.gap c.in-Ok-insert.ensures.updates c.insert.ensures.was_ordered c.in-Ok-insert.ensures.entries in
     let counted = c.args.self.now.counted in
     let cost = put.cost in
-    record { apart = put.apart; counted = omega arith; within = omega arith }
+    record { apart = put.apart; counted = omega arith; within = omega arith; ordered = c.insert.ensures.ordered }
 
 pub returns-in-Ok-insert-clause-ok : goal.returns-in-Ok-insert-clause-ok
 returns-in-Ok-insert-clause-ok c =

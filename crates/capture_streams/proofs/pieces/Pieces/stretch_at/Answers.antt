@@ -1,5 +1,5 @@
-use Rattle.std.proofs.Common.{◌+◌, arith}
-use Rattle.capture_streams.proofs.Holding.{next_from, none_from, held_stretch, gap_stretch, empty_stretch}
+use Rattle.std.proofs.Common.{◌+◌, inl, refl, arith}
+use Rattle.capture_streams.proofs.Holding.{next_from, none_from, held_stretch, gap_stretch, gap_ends, empty_stretch}
 use Rattle.capture_streams.proofs.pieces.Pieces.stretch_at.Goals as goal
 
 pub returns-in-None : goal.returns-in-None
@@ -9,6 +9,7 @@ returns-in-None c =
       omega arith,
       empty_stretch m c.args.at c.args.most c.args.self.now.apart
           (none_from m c.args.at _ (c.range.ensures.in_range tt) c.in-None.ensures.steps.0),
+      inl refl,
     )
 
 pub returns-then-piece-at : goal.returns-then-piece-at
@@ -37,4 +38,6 @@ returns-else-piece-at c =
       omega arith,
       gap_stretch m c.args.at c.in-Some.last.now c.min-else-piece-at.result v
           c.args.self.now.apart next (omega arith),
+      gap_ends m c.args.at c.in-Some.last.now c.args.most c.min-else-piece-at.result v c.args.self.now.apart next ahead
+          (omega arith),
     )
