@@ -54,8 +54,8 @@ abbrev pub IsNextPiece : (old new : Direction) → (sequence : ℕ) → (bytes :
 IsNextPiece old new sequence bytes taken n =
     IsGap new.pieces.by_last (begin_ahead old sequence + taken) (length bytes - taken) n
 
--- When a segment is refused, or its bytes from one on. For the limit: it begins ahead, and with the next piece of it the
--- direction would count more. For want of memory: all was taken, or it does not begin ahead, or with that piece the
+-- When a segment is refused, or its bytes from one on. For the limit: it begins ahead, and with the next piece of it
+-- the direction would count more. For want of memory: all was taken, or it does not begin ahead, or with that piece the
 -- direction would count no more. For want of places: the due one is behind place 2^62.
 abbrev pub RefusedFor : (old new : Direction) → (sequence : ℕ) → (bytes : List ℕ) → Refusal → Type 0
 RefusedFor old new sequence bytes (refusal.Full taken) =

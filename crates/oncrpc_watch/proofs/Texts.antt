@@ -9,7 +9,8 @@ use Rattle.oncrpc_watch.specs.Terms.{first_declaring, each_declared, has_program
 
 module _ (d : Declared) (ds : List code.Declared) (i : ℕ) (x : code.Declared) (program : ℕ) (some : i < length ds)
     (is : x ≡ get_or ds i x) where
-  split : first_declaring d (each_declared (drop i ds)) program ≡ first_declaring d (each_declared (x ∷ drop (i + 1) ds)) program
+  split : first_declaring d (each_declared (drop i ds)) program
+      ≡ first_declaring d (each_declared (x ∷ drop (i + 1) ds)) program
   split = at_drop_more (λ k. first_declaring d (each_declared k) program) ds i x some
       ∙ ap (λ k. first_declaring d (each_declared (k ∷ drop (i + 1) ds)) program) (sym is)
 
@@ -24,5 +25,6 @@ module _ (d : Declared) (ds : List code.Declared) (i : ℕ) (x : code.Declared) 
   is_first e = split ∙ chosen true e
 
   pub is_later : has_program program (declared_of x) ≡ false
-      → first_declaring d (each_declared (drop i ds)) program ≡ first_declaring d (each_declared (drop (i + 1) ds)) program
+      → first_declaring d (each_declared (drop i ds)) program
+      ≡ first_declaring d (each_declared (drop (i + 1) ds)) program
   is_later e = split ∙ chosen false e
