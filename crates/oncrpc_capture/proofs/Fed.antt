@@ -1,6 +1,6 @@
 -- What taking pieces of a file does, one after another.
-use Rattle.std.proofs.Common.{◌≡◌, ℕ, ◌+◌, ◌-◌, ◌^◌, min, true, false, List, [], ◌∷◌, ◌++◌, length, take, drop}
-use Rattle.std.proofs.Common.{Option, Some, Ok}
+use Rattle.std.proofs.Common.{◌≡◌, ◌≢◌, ◌⊎◌, inl, inr, ℕ, ◌+◌, ◌-◌, ◌^◌, min, true, false, List, [], ◌∷◌, ◌++◌, length}
+use Rattle.std.proofs.Common.{take, drop, Option, Some, Ok}
 use Rattle.std.proofs.Common.{Bool, refl, sym, ap, ◌∙◌, subst, arith, append_assoc, length-drop}
 use Rattle.std.proofs.lemmas.List.{append-nil, take-append-drop, take_all}
 use Rattle.std.specs.Io.KnownBytes.{Consumes, IsAtEnd}
@@ -12,6 +12,7 @@ use Rattle.capture_files.specs.declared.reader.CaptureReader.{CaptureReader}
 use Rattle.capture_files.specs.declared.reason.CaptureReason.TheVariants as reason
 use Rattle.capture_files.specs.declared.fault.CaptureStep.{CaptureStep}
 use Rattle.capture_files.specs.declared.fault.CaptureStep.TheVariants.{More, Packet}
+use Rattle.capture_files.specs.Faults.{IsRefused}
 use Rattle.capture_files.specs.Represents.{Faulty, Represents, RepresentsAt, Reports, Takes, state_of, used_of, waiting}
 use Rattle.capture_files.specs.Represents.{waits_at}
 use Rattle.capture_files.specs.Runs.{PacketView, IsCapture}
@@ -97,13 +98,16 @@ module _ (p q : Printing) (ports : List ℕ) (f g : ℕ) (r s new : CaptureReade
   -- the piece is refused
   pub fed_broken : (piece : List ℕ) (q' : Printing) (g' : ℕ) (c : Option (List ℕ)) (fault : CaptureFault)
       → piece ≡ done ++ rest → Takes s new (take (length rest) rest) → new.progress ≡ Broken fault
-      → (fault.reason ≡ reason.NoMemory → ⊥) → (fault.reason ≡ reason.Truncated → ⊥)
+      → (fault.reason ≡ reason.NoMemory → ⊥) → IsRefused s fault ⊎ (fault.reason ≢ reason.Truncated)
       → Prints q q' (FileRefused (reason_name fault.reason) fault.at ∷ []) b c
       → Feeds false p q' ports f g' r new piece a c
-  fed_broken piece q' g' c fault is takes broken memory more one = λ first begun bytes k.
+  fed_broken piece q' g' c fault is takes broken memory inside one = λ first begun bytes k.
+      let through = h first begun bytes k in
+      let more : fault.reason ≢ reason.Truncated =
+      elim inside [ inl before ↦ absurd (through.open_is fault before) | inr other ↦ other ] in
       subst (λ (x : List ℕ). IsBrokenOff x ports first q' begun c) (rest_is bytes done rest piece is)
       (broken_off s new (bytes ++ done) (take (length rest) rest) ports g first q q' begun b c fault.reason fault.at
-      (h first begun bytes k) (says (bytes ++ done)) memory more one)
+      through (says (bytes ++ done)) memory more one)
     where
       says : (bytes : List ℕ) (ps : List PacketView) → Represents s bytes ps
           → Faulty fault.reason fault.at (bytes ++ take (length rest) rest) ps

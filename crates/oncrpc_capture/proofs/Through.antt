@@ -2,11 +2,13 @@
 use Rattle.std.proofs.Common.{◌≡◌, ℕ, suc, ◌+◌, ◌-◌, ◌^◌, min, List, [], ◌∷◌, ◌++◌, length, Option, Some, None}
 use Rattle.std.proofs.Common.{refl, sym, ap, ◌∙◌, subst, arith, append_assoc, length-append}
 use Rattle.std.proofs.lemmas.List.{append-nil}
+use Rattle.capture_files.specs.declared.fault.CaptureFault.{CaptureFault}
 use Rattle.capture_files.specs.declared.progress.Progress.{Progress}
 use Rattle.capture_files.specs.declared.progress.Progress.TheVariants.{Gathering, Waiting, Broken}
 use Rattle.capture_files.specs.declared.reader.CaptureReader.{CaptureReader}
 use Rattle.capture_files.specs.declared.reason.CaptureReason.{CaptureReason}
 use Rattle.capture_files.specs.declared.reason.CaptureReason.TheVariants as reason
+use Rattle.capture_files.specs.Faults.{IsRefused}
 use Rattle.capture_files.specs.Represents.{Faulty, Represents, Takes, waiting, waiting_at, waits_at}
 use Rattle.capture_files.specs.Runs.{PacketView, capped}
 use Rattle.oncrpc_capture.specs.declared.printing.Printing.{Printing}
@@ -50,13 +52,23 @@ waits_listed (Broken fault) unit = refl
 
 -- ---- a reader goes on
 
+-- a reader that gathers, or whose packet waits, has answered no fault
+not_gathering : (r : CaptureReader) (fault : CaptureFault) → r.progress ≡ Gathering → IsRefused r fault → ⊥
+not_gathering r fault e h = absurd cc
+
+not_waiting : (r : CaptureReader) (fault : CaptureFault) (v : PacketView) → Some v ≡ waiting r → IsRefused r fault → ⊥
+not_waiting r fault v waits h =
+    let none : Some v ≡ None = waits ∙ ap (λ (g : Progress). waiting_at g r.unit.items) h in
+    absurd cc
+
 pub through_start : (r : CaptureReader) (ports : List ℕ) (p : Printing) (a : Option (List ℕ)) → Represents r [] []
-    → IsThrough r [] ports 0 p p a a
+    → r.progress ≡ Gathering → IsThrough r [] ports 0 p p a a
 unfolding BringAll
-through_start r ports p a h = record {
+through_start r ports p a h open_is = record {
   packets = [];
   entries = [];
   represents = h;
+  open_is = λ fault k. not_gathering r fault open_is k;
   brings = refl;
   frame_is = omega arith;
   prints = prints_none p a;
@@ -72,6 +84,7 @@ through_more r new bytes taken ports frame p q a b h takes open_is = record {
   represents = subst (λ (ps : List PacketView). Represents new (bytes ++ taken) ps)
       (ap (λ (g : Progress). h.packets ++ waits_at g new.unit.items) open_is ∙ append-nil h.packets)
       (takes bytes h.packets h.represents);
+  open_is = λ fault k. not_gathering new fault open_is k;
   brings = h.brings;
   frame_is = h.frame_is;
   prints = h.prints;
@@ -90,6 +103,7 @@ through_packet r new bytes taken ports frame frame' p mid q a b c v h takes wait
       entries = h.entries ++ one.entries;
       represents = subst (λ (ps : List PacketView). Represents new (bytes ++ taken) (h.packets ++ ps))
           (waits_listed new.progress new.unit.items ∙ ap listed (sym waits)) (takes bytes h.packets h.represents);
+      open_is = λ fault k. not_waiting new fault v waits k;
       brings = brings_more ports 1 h.packets v h.entries one.entries h.brings
           (subst (λ (n : ℕ). Brings ports n v one.entries) number one.those);
       frame_is = omega (arith, number, length-append h.packets (v ∷ []));

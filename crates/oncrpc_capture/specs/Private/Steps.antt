@@ -2,9 +2,11 @@
 use Rattle.std.specs.Prelude.{◌≡◌, ◌⊎◌, ℕ, ◌+◌, Bool, true, false, List, [], ◌∷◌, ◌++◌, length, codes, is_some}
 use Rattle.std.specs.Prelude.{Option, None, Some}
 use Rattle.std.specs.Io.KnownBytes.{Appends, Consumes, IsAtEnd, Keeps}
+use Rattle.capture_files.specs.declared.fault.CaptureFault.{CaptureFault}
 use Rattle.capture_files.specs.declared.reader.CaptureReader.{CaptureReader}
 use Rattle.capture_files.specs.declared.reason.CaptureReason.{CaptureReason}
 use Rattle.capture_files.specs.declared.reason.CaptureReason.TheVariants.{Truncated}
+use Rattle.capture_files.specs.Faults.{IsRefused}
 use Rattle.capture_files.specs.Represents.{Represents, waiting}
 use Rattle.capture_files.specs.Runs.{PacketView, capped}
 use Rattle.capture_packets.specs.Packet.{DatagramView}
@@ -59,12 +61,14 @@ MayTell is_message frame d entries = ((entries ≡ []) × (is_message ≡ false)
 
 -- ---- the packets of a file
 
--- The reader has taken these bytes, and all that their packets bring was printed since. This is the number of the last.
+-- The reader has taken these bytes and has answered no fault, and all that their packets bring was printed since. This
+-- is the number of the last.
 pub record IsThrough (reader : CaptureReader) (bytes ports : List ℕ) (frame : ℕ) (p new : Printing)
     (taken taken' : Option (List ℕ)) : Type 0 where
   pub packets : List PacketView
   pub entries : List Entry
   pub represents : Represents reader bytes packets
+  pub open_is : (fault : CaptureFault) → IsRefused reader fault → ⊥
   pub brings : BringAll ports 1 packets entries
   pub frame_is : frame ≡ capped (length packets)
   pub prints : Prints p new entries taken taken'

@@ -87,7 +87,7 @@ impl<'a> Desk<'a> {
                     rest = &rest[used..];
                 }
                 Err(fault) => {
-                    self.refuse_inside(fault, output)?;
+                    self.refuse_file(fault, output)?;
                     return Ok(false);
                 }
             }
@@ -112,20 +112,6 @@ impl<'a> Desk<'a> {
                 self.packet(packet, output)
             }
             None => Err(Failure::Read),
-        }
-    }
-
-    // Says why the file is refused for what stands in it: a piece does not end it.
-    fn refuse_inside<O: Sink>(&mut self, fault: CaptureFault, output: &mut O) -> Result<(), Failure>
-        ensures told { OnOk result (Prints self.old.printing self.new.printing
-            (FileRefused (reason_name fault.reason) fault.at ∷ []) (O.taken output.old) (O.taken output.new)) }
-        ensures memory { OnOk result (fault.reason ≡ CaptureReason.NoMemory → ⊥) }
-        ensures inside { OnOk result (fault.reason ≡ CaptureReason.Truncated → ⊥) }
-        ensures same { (self.new.ports ≡ self.old.ports) × (self.new.frame ≡ self.old.frame) }
-    {
-        match fault.reason {
-            CaptureReason::Truncated => Err(Failure::Read),
-            _ => self.refuse_file(fault, output),
         }
     }
 

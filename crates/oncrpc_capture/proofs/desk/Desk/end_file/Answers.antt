@@ -8,6 +8,5 @@ returns-in-Ok g c =
 
 pub returns-in_ok-refuse_file-in-Err : goal.returns-in_ok-refuse_file-in-Err
 returns-in_ok-refuse_file-in-Err g c = on_ok _
-    (λ h. ends_cut _ _ _ _ _ _ c.end.new.self _ _ _ c.in-Err.fault c.in-Err.ensures.ends.0
-    c.in-Err.ensures.ends.1 c.in_ok-refuse_file-in-Err.ensures.reason c.in_ok-refuse_file-in-Err.ensures.told h)
-    c.end-in-Err.ensures.some
+    (λ h. ends_cut _ _ _ _ _ _ c.end.new.self _ _ _ c.in-Err.fault c.in-Err.ensures.ends.0 c.in-Err.ensures.ends.1
+    c.in_ok-refuse_file-in-Err.ensures.reason c.in_ok-refuse_file-in-Err.ensures.told h) c.end-in-Err.ensures.some

@@ -34,7 +34,7 @@ returns-in-Ok-More-clause-feeds g c =
 pub returns-in-Err-clause-feeds : goal.returns-in-Err-clause-feeds
 returns-in-Err-clause-feeds g c =
     let inv = c.packets.invariant in
-    let refused = c.in_ok-refuse_inside-in-Err.ensures in
+    let refused = c.in_ok-refuse_file-in-Err.ensures in
     fed_broken _ _ _ _ _ _ _ c.feed.new.self _ _ _ _ inv.through.2
-    _ _ c.refuse_inside.new.self.frame _ c.in-Err.fault inv.through.1 c.in-Err.ensures.takes
-    c.in-Err.ensures.reports refused.memory refused.inside refused.told
+    _ _ c.refuse_file.new.self.frame _ c.in-Err.fault inv.through.1 c.in-Err.ensures.takes
+    c.in-Err.ensures.reports refused.reason c.in-Err.ensures.refused.inside refused.told

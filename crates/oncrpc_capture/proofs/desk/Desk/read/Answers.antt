@@ -15,7 +15,7 @@ reads-init g c =
         [],
         Consumes-none _,
         subst (λ n. IsThrough c.start-reader.result [] c.args.self.now.ports.now n p p t t) (sym c.requires)
-            (through_start _ _ p t c.start-reader.ensures.represents),
+            (through_start _ _ p t c.start-reader.ensures.represents c.start-reader.ensures.gathers),
       );
       ports = refl;
     }
