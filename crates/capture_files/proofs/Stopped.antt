@@ -1,6 +1,6 @@
 -- A file is not refused for what its bytes say, nor cut: where a unit comes next, none of its front is anything else.
-use Rattle.std.proofs.Common.{◌≡◌, ℕ, zero, suc, ◌+◌, ◌-◌, ◌<◌, ◌≤◌, eqb, false, List, [], ◌∷◌, ◌++◌, length, take, drop, inl}
-use Rattle.std.proofs.Common.{inr, refl, sym, ap, subst, ◌∙◌, append_assoc, arith, Option}
+use Rattle.std.proofs.Common.{◌≡◌, ℕ, zero, suc, ◌+◌, ◌-◌, ◌<◌, ◌≤◌, eqb, false, List, [], ◌∷◌, ◌++◌, length, take}
+use Rattle.std.proofs.Common.{drop, inl, inr, refl, sym, ap, subst, ◌∙◌, append_assoc, arith, Option}
 use Rattle.std.proofs.lemmas.Bool.{cases_lt, ne_eqb}
 use Rattle.std.proofs.lemmas.List.{append_cancel_left, append-nil, length-append, length-take-le, take_all}
 use Rattle.std.specs.List.{concat}
@@ -16,8 +16,8 @@ use Rattle.capture_files.specs.Runs.{PacketView, StateView, beginning, step_at, 
 use Rattle.capture_files.specs.Runs.{left_of, IsUnit, IsUnitOf, behind, Leads, MayEnd}
 use Rattle.capture_files.specs.Runs.{NothingIsRefused, NothingIsCut}
 use Rattle.capture_files.specs.Steps.{step_of}
-use Rattle.capture_files.proofs.Once.{IsDone, whole_done, asks_no_unit, need_is, same_length, least_is, fronts_same, same_unit}
-use Rattle.capture_files.proofs.Once.{unfold_pass, rest_passes, rest_same}
+use Rattle.capture_files.proofs.Once.{IsDone, whole_done, asks_no_unit, need_is, same_length, least_is, fronts_same}
+use Rattle.capture_files.proofs.Once.{same_unit, unfold_pass, rest_passes, rest_same}
 use Rattle.capture_files.proofs.Passed.{nothing_passes}
 use Rattle.capture_files.proofs.Represented.{made}
 use Rattle.capture_files.proofs.Taking.{refused_more}
@@ -138,7 +138,8 @@ module _ (fuel : ℕ) (never : Never fuel) (order : Order) (interface : Option I
               let rest : a ≡ b ++ tail =
               append_cancel_left u a (b ++ tail) (joined ∙ ap (λ (x : List ℕ). x ++ (b ++ tail)) (sym same)) in
               let later = subst
-              (λ (x : ℕ). Leads (made (Passing order interface (left - x) total) interfaces) vs qs r) (sym len) g.later in
+              (λ (x : ℕ). Leads (made (Passing order interface (left - x) total) interfaces) vs qs r) (sym len)
+              g.later in
               never us vs (made (Passing order interface (left - length u) total) interfaces) ps qs t r tail
               (omega (arith, few)) f.later later rest ends stuck
         ]

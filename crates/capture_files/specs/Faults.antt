@@ -27,7 +27,8 @@ abbrev pub EndsInside : CaptureReader → CaptureFault → Type 0
 EndsInside r fault = (fault.reason ≡ Truncated) × ((bytes : List ℕ) (ps : List PacketView)
     → Represents r bytes ps → (cut : CutAt fault.at bytes ps) × (cut.more ≡ []))
 
--- How the end of a file is refused: by the fault that was answered before, or since the file is cut. No memory is taken.
+-- How the end of a file is refused: by the fault that was answered before, or since the file is cut. No memory is
+-- taken.
 pub record RefusesEnd (old new : CaptureReader) (result : Result (Unit {0}) CaptureFault) : Type 0 where
   pub again : AnswersAgain old new result
   pub cut : IfErr result (λ fault. IsRefused old fault ⊎ EndsInside old fault)

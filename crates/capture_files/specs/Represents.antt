@@ -85,8 +85,8 @@ Represents r bytes ps = RepresentsAt r.progress r.need r.at r.unit.items (state_
 abbrev pub kept_of : CaptureReader → List ℕ
 kept_of r = r.unit.items
 
--- What is kept of the bytes that were taken. While a unit is gathered: what they have behind whole units, with all their
--- packets. While a packet waits: their last unit, which has it. Nothing is said of a file that is refused.
+-- What is kept of the bytes that were taken. While a unit is gathered: what they have behind whole units, with all
+-- their packets. While a packet waits: their last unit, which has it. Nothing is said of a file that is refused.
 abbrev pub KeptAt : Progress → (kept bytes : List ℕ) → List PacketView → Type 0
 KeptAt Gathering kept bytes ps =
     (whole : List ℕ) × (s : StateView) × Front whole ps s × (bytes ≡ whole ++ kept)

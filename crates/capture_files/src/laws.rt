@@ -14,8 +14,8 @@ pub fn a_file_is_not_refused()
     ensures cut { NothingIsCut }
 {}
 
-/// A file of the classic format that is spelled from its packets, in either order of bytes and with either unit of times,
-/// has these packets, and no others (draft-ietf-opsawg-pcap sections 4 and 5).
+/// A file of the classic format that is spelled from its packets, in either order of bytes and with either unit of
+/// times, has these packets, and no others (draft-ietf-opsawg-pcap sections 4 and 5).
 pub fn spelled_files_are_read()
     ensures read { SpelledFilesAreRead }
     ensures only { SpelledFilesHaveNoOthers }

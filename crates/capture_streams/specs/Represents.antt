@@ -40,8 +40,8 @@ abbrev pub given_count : (ℕ → Option ℕ) → (from n : ℕ) → ℕ
 given_count g from zero = 0
 given_count g from (suc n) = (if is_some (g from) then 1 else 0) + given_count g (from + 1) n
 
--- So much is held of these bytes: those from the due place on, which were not handed on, and 128 for each piece of them.
--- No piece is empty, so 0 is held exactly where none of them stands there.
+-- So much is held of these bytes: those from the due place on, which were not handed on, and 128 for each piece of
+-- them. No piece is empty, so 0 is held exactly where none of them stands there.
 pub record HoldsGiven (d : Direction) (g : ℕ → Option ℕ) (held : ℕ) : Type 0 where
   pub places : ℕ
   pub pieces : ℕ

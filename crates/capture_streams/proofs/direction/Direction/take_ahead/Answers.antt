@@ -22,8 +22,8 @@ returns-in_err-fill-clause-refused c =
     let p = err_from_is_err_and c.from_residual.result c.from_residual.ensures.1 in
     let d = c.args.self.now in
     let refused = c.in_err-fill.ensures.refused in
-    rw (p.1, p.2, ← c.from.ensures) (refused_ahead c.fill.new.self (d.due + c.from.result) c.args.bytes.now c.in_err-fill.field-0.0
-    refused.few refused.wanted)
+    rw (p.1, p.2, ← c.from.ensures) (refused_ahead c.fill.new.self (d.due + c.from.result) c.args.bytes.now
+    c.in_err-fill.field-0.0 refused.few refused.wanted)
 
 pub returns-in-Ok-clause-steps : goal.returns-in-Ok-clause-steps
 returns-in-Ok-clause-steps c =
