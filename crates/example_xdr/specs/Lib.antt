@@ -6,3 +6,4 @@ pub mod Rfc
 pub mod Reported
 pub mod Optional
 pub mod Counted
+pub mod Unions

@@ -1,6 +1,4 @@
 //! Random schemas, inputs and limits for tests, which a generator makes: the same for the same seed.
-#![tactic(auto)]
-
 use rand_core::utils::NextWord;
 use rand_pcg::Pcg32;
 use std::alloc::{AllocError, Global};
