@@ -1,9 +1,8 @@
 -- Names that stand for numbers by other names, said of the whole text.
-use Rattle.std.proofs.Common.{◌≡◌, ◌⊎◌, ℕ, zero, suc, ◌+◌, ◌<◌, ◌≤◌, ℤ, Bool, true, false, List, [], ◌∷◌, ◌++◌, length}
+use Rattle.std.proofs.Common.{◌≡◌, ◌⊎◌, ℕ, zero, suc, ◌+◌, ◌≤◌, ℤ, Bool, true, false, List, [], ◌∷◌, ◌++◌, length}
 use Rattle.std.proofs.Common.{Option, Some, None, option_map, refl, sym, ap, subst, ◌∙◌, inl, inr, arith, append_assoc}
 use Rattle.std.proofs.Common.{length-append}
 use Rattle.std.specs.List.{list_any}
-use Rattle.std.specs.Prelude.{if◌then◌else◌}
 use Rattle.std.specs.Str.{bytes_eq}
 use Rattle.std.proofs.lemmas.Bool.{cases_Bool as test}
 use Rattle.xdr_tokens.specs.Tokens.{Lexeme, Word, Name, Number, Sign}
@@ -171,7 +170,8 @@ sound_found : (whole : List Lexeme) (place : ℕ) (ks : List Known) → Sound wh
     → GivesName whole place n m → (x : Option (ℤ × Bool)) → known m ks ≡ x
     → Sound whole (suc place)
     (with_last ks (option_map (number_known n) (option_map (λ (y : ℤ × Bool). y.0) x)))
-sound_found whole place ks sound n m g None e k h = later whole place (suc place) k.name k.value (omega arith) (sound k h)
+sound_found whole place ks sound n m g None e k h =
+    later whole place (suc place) k.name k.value (omega arith) (sound k h)
 sound_found whole place ks sound n m g (Some x) e k h =
     elim (in_either k (number_known n x.0) ks h) [
       | inl earlier ↦ later whole place (suc place) k.name k.value (omega arith) (sound k earlier)

@@ -1,6 +1,6 @@
 -- What a text gives to names, said of the whole text.
-use Rattle.std.proofs.Common.{◌≡◌, ◌⊎◌, ℕ, suc, ℤ, pos, negsuc, Bool, true, false, not, ◌&&◌, ◌||◌, List, [], ◌∷◌}
-use Rattle.std.proofs.Common.{◌++◌, length, Option, Some, None, option_map, slice_get, refl, sym, ap, subst, ◌∙◌}
+use Rattle.std.proofs.Common.{◌≡◌, ◌⊎◌, ℕ, ℤ, pos, negsuc, Bool, true, false, not, ◌&&◌, ◌||◌, List, [], ◌∷◌}
+use Rattle.std.proofs.Common.{◌++◌, Option, Some, None, option_map, refl, sym, ap, subst, ◌∙◌}
 use Rattle.std.proofs.Common.{inl, inr, arith, append_assoc, int_le}
 use Rattle.std.specs.List.{list_any}
 use Rattle.std.specs.Prelude.{◌==◌, if◌then◌else◌}
@@ -223,11 +223,21 @@ given_front read make reads (t ∷ ts) a e =
           let fails : None ≡ Some a = rw off at e in absurd (some_is_not a (sym fails))
     ]
 
--- behind arguments
+-- it is given behind arguments
+abbrev IsBehind : {A : Type 0} → (A → Lexeme) → List Lexeme → A → Type 0
+IsBehind make ts a =
+    (inside : List Lexeme) × (behind : List Lexeme) × (list_any is_round inside ≡ false)
+    × (ts ≡ inside ++ Sign mark.CloseRound ∷ equal ∷ make a ∷ behind)
+
+one_more_inside : {A : Type 0} (make : A → Lexeme) (t : Lexeme) (ts : List Lexeme) (a : A)
+    → is_sign mark.OpenRound t ≡ false → is_sign mark.CloseRound t ≡ false → IsBehind make ts a
+    → IsBehind make (t ∷ ts) a
+one_more_inside make t ts a opens closes r =
+    (t ∷ r.0, r.1, plain_one t r.0 opens closes r.2, ap (λ (us : List Lexeme). t ∷ us) r.3)
+
 given_behind : {A : Type 0} (read : List Lexeme → Option A) (make : A → Lexeme) → Reads read make
     → (ts : List Lexeme) (a : A) → value_given read (behind_arguments ts) ≡ Some a
-    → (inside : List Lexeme) × (behind : List Lexeme) × (list_any is_round inside ≡ false)
-    × (ts ≡ inside ++ Sign mark.CloseRound ∷ equal ∷ make a ∷ behind)
+    → IsBehind make ts a
 unfolding behind_arguments
 given_behind read make reads [] a e = absurd (some_is_not a (sym e))
 given_behind read make reads (t ∷ ts) a e =
@@ -248,8 +258,7 @@ given_behind read make reads (t ∷ ts) a e =
             absurd (some_is_not a (sym round))
         | inr plain ↦
             let later : value_given read (behind_arguments ts) ≡ Some a = rw (other, plain) at e in
-            let r = given_behind read make reads ts a later in
-            (t ∷ r.0, r.1, plain_one t r.0 plain other r.2, ap (λ (us : List Lexeme). t ∷ us) r.3)
+            one_more_inside make t ts a plain other (given_behind read make reads ts a later)
       ]
     ]
 

@@ -1,8 +1,6 @@
 -- What a name stands for, said of a whole text.
-use Rattle.std.proofs.Common.{◌≡◌, ◌⊎◌, ℕ, zero, suc, ℤ, Bool, true, false, not, List, [], ◌∷◌, ◌++◌, length}
+use Rattle.std.proofs.Common.{◌≡◌, ℕ, zero, suc, ℤ, Bool, true, false, not, List, [], ◌∷◌, ◌++◌, length}
 use Rattle.std.proofs.Common.{Option, Some, None, option_map, slice_get, refl, sym, ap, subst, ◌∙◌, inl, inr}
-use Rattle.std.specs.List.{list_any}
-use Rattle.std.specs.Prelude.{if◌then◌else◌}
 use Rattle.std.proofs.lemmas.Bool.{cases_Bool as test}
 use Rattle.xdr_tokens.specs.declared.token.Mark.TheVariants as mark
 use Rattle.xdr_tokens.specs.Tokens.{Lexeme, Word, Name, Number, Sign}
@@ -30,7 +28,8 @@ behind_one f ks value (b ∷ before) u t behind =
 
 at_place : (f : Bool) (ks : List Known) (value : Bool) (before : List Lexeme) (t : Lexeme) (behind : List Lexeme)
     → (table : List Known) × (is_value : Bool)
-    × (slice_get (resolved_from f ks value (before ++ t ∷ behind)) (length before) ≡ Some (valued table is_value t behind))
+    × (slice_get (resolved_from f ks value (before ++ t ∷ behind)) (length before)
+    ≡ Some (valued table is_value t behind))
 unfolding resolved_from
 at_place f ks value [] t behind = (ks, value, refl)
 at_place f ks value (b ∷ before) t behind =
@@ -134,8 +133,8 @@ nothing_at f [] (suc p) = refl
 nothing_at f (t ∷ ts) (suc p) =
     ap (λ (ks : List Known). table_at f ks ts p) (none_follows f t ts) ∙ nothing_at f ts p
 
-known_nowhere : (f : Bool) (ts : List Lexeme) (p : ℕ) (n : List ℕ) (x : ℤ × Bool) → known n (table_at f [] ts p) ≡ Some x
-    → ⊥
+known_nowhere : (f : Bool) (ts : List Lexeme) (p : ℕ) (n : List ℕ) (x : ℤ × Bool)
+    → known n (table_at f [] ts p) ≡ Some x → ⊥
 unfolding known
 known_nowhere f ts p n x e = some_is_not x (sym (ap (known n) (sym (nothing_at f ts p)) ∙ e))
 
@@ -194,7 +193,8 @@ named before n v behind one stands =
     elim (none_or_some (known n table)) [
       | inl none ↦ absurd (is_known table (number_known n v) there none)
       | inr some ↦
-          becomes_number before n behind (known n table) some.0 v (becomes before n behind true (given ts) on all) some.1
+          let here = becomes before n behind true (given ts) on all in
+          becomes_number before n behind (known n table) some.0 v here some.1
           (is_there (given ts) ts fails place n v some.0 there some.1)
     ]
 

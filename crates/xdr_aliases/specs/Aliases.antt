@@ -70,9 +70,13 @@ is_number v (Some found) = int_le v found.0 && int_le found.0 v
 abbrev pub clashes : List Known → Known → Bool
 clashes ks k = not (is_number k.value (known k.name ks))
 
+-- some name has two numbers
+abbrev pub has_clash : List Known → Bool
+has_clash ks = list_any (clashes ks) ks
+
 -- the names with their numbers, none where one of them has two
 abbrev pub apart : List Known → List Known
-apart ks = if list_any (clashes ks) ks then [] else ks
+apart ks = if has_clash ks then [] else ks
 
 -- the number of a name, where there is one
 abbrev pub number_named : List Known → Option (List ℕ) → Option ℤ
@@ -121,10 +125,7 @@ resolved_from follows ks value [] = []
 resolved_from follows ks value (t ∷ ts) =
     valued ks value t ts ∷ resolved_from follows (followed_one follows ks t ts) (is_sign mark.Equal t) ts
 
--- some name has two numbers
-abbrev pub has_clash : List Known → Bool
-has_clash ks = list_any (clashes ks) ks
-
--- The tokens with numbers in place of the names that stand for them. Names are followed where none has two numbers then.
+-- The tokens with numbers in place of the names that stand for them. Names are followed where none has two numbers
+-- then.
 abbrev pub resolved : List Lexeme → List Lexeme
 resolved ts = resolved_from (not (has_clash (followed true (apart (given ts)) ts))) (apart (given ts)) false ts
