@@ -172,8 +172,8 @@ def named(program, folder):
 
 
 # A program of one's own, and another text of one that is installed.
-OWN = "program OWN { version OWN_V { unsigned TWICE(unsigned) = 1; } = 1; } = 536870912;"
-OTHER = "program ASKED { version ASKED_V { unsigned ASK(unsigned, unsigned, unsigned, unsigned) = 3; } = 2; } = 100000;"
+OWN = "program OWN { version OWN_V { int TWICE(int) = 1; } = 1; } = 536870912;"
+OTHER = "program ASKED { version ASKED_V { int ASK(int, int, int, int) = 3; } = 2; } = 100000;"
 # Calls of both, and the words with what is printed of the second.
 CALLED = fragment(call(1, 536870912, 1, 1, words(7))) + fragment(GETPORT)
 BESIDE = [
