@@ -1,3 +1,4 @@
+use Rattle.std.proofs.Common.{◌∙◌}
 use Rattle.oncrpc_watch.proofs.Answered.{answers_of, is_program}
 use Rattle.oncrpc_watch.proofs.watch.Watch.tell.Goals as goal
 
@@ -10,3 +11,7 @@ returns-clause-told c = λ s h. record {
       c.program_of.ensures.reply c.in_ok-page.ensures;
   tells = rw c.settings-settings.ensures at c.in_ok-page.ensures;
 }
+
+pub returns-in_err-note-clause-unchanged : goal.returns-in_err-note-clause-unchanged
+returns-in_err-note-clause-unchanged c = λ s h.
+    (c.in_err-note.ensures.unchanged s.history h.0, c.note.ensures.counts ∙ h.1)
