@@ -1,5 +1,5 @@
 -- The numbers of the calls that wait, each once.
-use Rattle.std.proofs.Common.{◌≡◌, ℕ, ◌+◌, ◌<◌, ◌^◌, List, [], ◌∷◌, ◌++◌, length, Option, None, Some, refl, sym, ap, ◌∙◌}
+use Rattle.std.proofs.Common.{◌≡◌, ℕ, ◌+◌, List, [], ◌∷◌, ◌++◌, length, Option, None, Some, refl, sym, ◌∙◌}
 use Rattle.std.proofs.Common.{inl, inr, arith, subst, suc}
 use Rattle.std.proofs.lemmas.Bool.{false≢true}
 use Rattle.std.specs.Prelude.{◌≢◌, ◌↔◌, ◌⊎◌, AllPairs, Contains, IsSome, is_some}
@@ -40,7 +40,8 @@ apart_joined (x ∷ xs) ys s p none = AllPairs-cons (λ a b. a ≢ b) x (xs ++ y
     (λ k a b. none k (Contains-append_right (x ∷ []) xs k a) b))
   where
     not_among : (b : ℕ) → Contains ys b → x ≢ b
-    not_among b h e = none x (Contains-append_left (x ∷ []) xs x (Contains-push [] x)) (subst (λ k. Contains ys k) (sym e) h)
+    not_among b h e = none x (Contains-append_left (x ∷ []) xs x (Contains-push [] x))
+        (subst (λ k. Contains ys k) (sym e) h)
 
 -- ---- of two maps
 

@@ -1,6 +1,6 @@
 -- A table of calls that wait stands for what was heard.
-use Rattle.std.proofs.Common.{◌≡◌, ◌⊎◌, ℕ, ◌+◌, ◌<◌, ◌≤◌, ◌^◌, Bool, true, false, List, [], ◌∷◌, ◌++◌, Option, None, Some}
-use Rattle.std.proofs.Common.{refl, sym, ap, ◌∙◌, subst, inl, inr, arith}
+use Rattle.std.proofs.Common.{◌≡◌, ℕ, ◌+◌, ◌<◌, ◌≤◌, ◌^◌, Bool, true, false, List, [], ◌∷◌, ◌++◌, Option, None}
+use Rattle.std.proofs.Common.{Some, refl, sym, ap, ◌∙◌, subst, inl, inr, arith}
 use Rattle.std.proofs.lemmas.Bool.{cases_Bool, false≢true}
 use Rattle.std.proofs.lemmas.List.Elements.{All-cons, All-head, All-nil, All-tail}
 use Rattle.std.specs.Prelude.{◌&&◌, ◌==◌, All, IsSome, is_some}
@@ -119,7 +119,8 @@ waits_not history way xid time a w = split w.since w.heard w.newest
 pub recalls_nothing : (table : CallTable) → ((way xid : ℕ) → waiting table way xid ≡ None)
     → spare_of table ≡ MOST_CALLS → Recalls table []
 recalls_nothing table empty spare = record {
-  each = λ way xid few. subst (λ o. IsKnownCall [] way xid o) (sym (empty way xid)) (λ a w. none _ w.before w.since w.heard);
+  each = λ way xid few. subst (λ o. IsKnownCall [] way xid o) (sym (empty way xid))
+      (λ a w. none _ w.before w.since w.heard);
   lasts = λ way xid a few some w. absurd (false≢true (ap (λ o. is_some o) (sym (empty way xid)) ∙ some));
   spare = omega (arith, spare);
 }

@@ -1,5 +1,6 @@
 -- Which call a reply answers, by what was heard before it (RFC 5531 section 9: a reply has the xid of its call).
-use Rattle.std.specs.Prelude.{◌≡◌, ℕ, ◌+◌, ◌<◌, ◌==◌, ◌&&◌, Bool, false, List, [], ◌∷◌, ◌++◌, All, Option, None, Some, ⊤}
+use Rattle.std.specs.Prelude.{◌≡◌, ℕ, ◌+◌, ◌<◌, ◌==◌, ◌&&◌, Bool, false, List, [], ◌∷◌, ◌++◌, All, Option, None}
+use Rattle.std.specs.Prelude.{Some, ⊤}
 use Rattle.oncrpc_messages.specs.declared.asked.Asked.{Asked}
 use Rattle.oncrpc_messages.specs.declared.page.Said.{Said}
 use Rattle.oncrpc_messages.specs.declared.page.Said.TheVariants as said

@@ -8,8 +8,8 @@ use Rattle.oncrpc_watch.specs.Heard.{Heard, IsKnownCall, Waits, calls_in}
 use Rattle.oncrpc_watch.specs.Run.{State}
 use Rattle.oncrpc_watch.specs.Waiting.{lasting, spare_of, waiting}
 
--- The calls that wait in it are those that wait by what was heard, but some that are forgotten: each is kept while 65536
--- more are heard.
+-- The calls that wait in it are those that wait by what was heard, but some that are forgotten: each is kept while
+-- 65536 more are heard.
 pub record Recalls (table : CallTable) (history : List Heard) : Type 0 where
   pub each : (way xid : ℕ) → xid < 2 ^ 32 → IsKnownCall history way xid (waiting table way xid)
   pub lasts : (way xid : ℕ) (asked : Asked) → xid < 2 ^ 32 → IsSome (waiting table way xid)
