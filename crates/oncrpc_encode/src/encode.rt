@@ -23,9 +23,9 @@ use xdr_io::{Sink, Source, write_whole};
 /// The input is read to its end, at most 16 bytes for each byte that the value may have and 1048576 more, before
 /// anything is written. 1 is a text that spells no value or is too long, and then the line of its refusal goes to
 /// `faults`, where that can be done. 2 is texts of declarations, a name or limits that are refused, in this order,
-/// before any input is read. A device that fails or too many reads are 3, an allocation failure is 4, and then the line
-/// of the failure goes to `faults`. The output gets the bytes of the value alone: nothing where the status is not 0, but
-/// what came before a write that failed.
+/// before any input is read. A device that fails or too many reads are 3, an allocation failure is 4, and then its line
+/// goes to `faults`. The output gets the bytes of the value alone: nothing where the status is not 0, but what came
+/// before a write that failed.
 ///
 /// Memory is of the size of the text and of the declarations. Each level of the value takes stack
 /// (`xdr_codec::encode`).
