@@ -6,4 +6,3 @@ pub mod Rfc
 pub mod Reported
 pub mod Optional
 pub mod Counted
-pub mod Unions

@@ -6,7 +6,6 @@ ghost use Rattle.xdr_types.specs.Tree.{absent, int, items, none, numbered};
 ghost use Rattle.xdr_types.specs.View.{tree};
 ghost use Rattle.xdr_types.specs.Within.{FitsWithin};
 ghost use Rattle.example_xdr.specs.Rfc.{constant, content, file_kinds, sillyprog, sillyprog_bytes, sillyprog_lines};
-ghost use Rattle.example_xdr.specs.Unions.{named_void, void_part, unnamed_string, string_part};
 
 use std::alloc::Global;
 use xdr_codec::parts;
@@ -152,34 +151,4 @@ pub fn shows_an_absent_item(
     ensures { IfOk result (λ b. b.items ≡ codes "absent\n") }
 {
     show(alloc, schema, kind, value, limits)
-}
-
-/// A void part of a union is shown by its name, where it has one (RFC 4506 section 4.15).
-pub fn shows_a_void_part_with_a_name(
-    alloc: Global,
-    schema: &Schema,
-    value: &Value,
-    limits: Limits,
-) -> Result<Vec<u8>, NoMemory>
-    requires fits { FitsWithin schema.now.kinds 2 limits (tree value.now) }
-    requires kinds { schema.now.kinds ≡ named_void }
-    requires value { tree value.now ≡ void_part }
-    ensures { IfOk result (λ b. b.items ≡ codes "case -1\n  none: void\n") }
-{
-    show(alloc, schema, KindId { place: 2 }, value, limits)
-}
-
-/// A part without a name is shown alone.
-pub fn shows_a_part_without_a_name(
-    alloc: Global,
-    schema: &Schema,
-    value: &Value,
-    limits: Limits,
-) -> Result<Vec<u8>, NoMemory>
-    requires fits { FitsWithin schema.now.kinds 2 limits (tree value.now) }
-    requires kinds { schema.now.kinds ≡ unnamed_string }
-    requires value { tree value.now ≡ string_part }
-    ensures { IfOk result (λ b. b.items ≡ codes "case 4294967295\n  \"z\"\n") }
-{
-    show(alloc, schema, KindId { place: 2 }, value, limits)
 }
