@@ -27,4 +27,4 @@ if [ -e "$here/../library/liboncrpc.a" ]; then
 fi
 gcc -O2 -w -I/usr/include/tirpc c/loop_json.c gen/bench_xdr.c -o loop_json -ltirpc -ljson-c
 for p in records loop_registry; do gcc -O2 -w -I/usr/include/tirpc c/$p.c -o $p -ltirpc; done
-gcc -O2 -w c/registry_load.c -o registry_load
+for p in registry_load registry_many; do gcc -O2 -w c/$p.c -o $p; done
