@@ -1,5 +1,5 @@
 -- What a refusal tells of a text.
-use Rattle.std.proofs.Common.{◌≡◌, ℕ, suc, ◌-◌, ◌<◌, ◌≤◌, ◌%◌, inl, inr, List, [], ◌∷◌, length, Bool, true, false}
+use Rattle.std.proofs.Common.{◌≡◌, ◌⊎◌, ℕ, suc, ◌-◌, ◌<◌, ◌≤◌, ◌%◌, inl, inr, List, [], ◌∷◌, length, Bool, true, false}
 use Rattle.std.proofs.Common.{ap, sym, Option, Some, is_some, MatchOption}
 use Rattle.std.proofs.Common.{arith, ◌∙◌, subst, Result, Ok, Err, if◌then◌else◌, ◌&&◌, ◌==◌, None}
 use Rattle.std.specs.List.{list_any}
@@ -26,7 +26,7 @@ use Rattle.xdr_json.specs.Text.{deepest, json_text}
 use Rattle.xdr_json_reader.specs.Reasons.{is_mark, numeral_reason, number_reason, name_reason, digits_reason}
 use Rattle.xdr_json_reader.specs.Reasons.{hex_reason, text_reason, list_reason, void_reason, tag_reason, form_reason}
 use Rattle.xdr_json_reader.specs.Reasons.{IsOfMembers, ChoiceTells, no_case, bad_case, no_arm, bad_arm, NodeTells}
-use Rattle.xdr_json_reader.specs.Reasons.{IsBeyond, Meets, nested_text, Tells, IsFirst, IsRight, Fault, kind_under}
+use Rattle.xdr_json_reader.specs.Reasons.{IsBeyond, Meets, nested_text, StandsAt, Tells, IsFirst, IsRight, Fault, kind_under}
 use Rattle.xdr_json_reader.specs.Reasons.{key_reason, refused_key, front, values, behind, here, in_part, lacks}
 use Rattle.xdr_json_reader.specs.Reasons.{in_member, on_key}
 use Rattle.xdr_json_reader.specs.Nodes.{Due, inside}
@@ -182,11 +182,11 @@ module _ (kinds : List KindView) (place : ℕ) (limits : Bounds) (text : List �
       by_case _ n h = (j, record { utf8 = u; is = e }, h)
 
   -- it is no JSON, or nests too deep
-  pub tells_none : (w : JsonReason) → NoneRead w (λ d. nested_text (suc d) text ≡ None)
+  pub tells_none : (w : JsonReason) → IsUtf8 text → NoneRead w (λ d. nested_text (suc d) text ≡ None)
       → Tells kinds place limits text w
-  tells_none w (inl m) = subst (λ (x : JsonReason). Tells kinds place limits text x) (sym m) tt
-  tells_none w (inr (inl d)) = subst (λ (x : JsonReason). Tells kinds place limits text x) (sym d.0) (inl d.1)
-  tells_none w (inr (inr n)) =
+  tells_none w u (inl m) = subst (λ (x : JsonReason). Tells kinds place limits text x) (sym m) u
+  tells_none w u (inr (inl d)) = subst (λ (x : JsonReason). Tells kinds place limits text x) (sym d.0) (inl d.1)
+  tells_none w u (inr (inr n)) =
       subst (λ (x : JsonReason). Tells kinds place limits text x) (sym n.0) (inr (λ most low. at most low))
     where
       at : (most : ℕ) → deepest ≤ most → nested_text most text ≡ None
@@ -214,8 +214,35 @@ module _ (kinds : List KindView) (place : ℕ) (limits : Bounds) (text : List �
           → Tells kinds place limits text (limit_reason v)
       by_case reason.TooDeep t s p =
           inr (beyond (λ x. (limits.depth < depth x) × Meets kinds place limits outcome.TooDeep x) t s p)
-      by_case reason.NoMemory t s p = tt
+      by_case reason.NoMemory t s p = u
       by_case reason.TooLarge t s p =
           beyond (λ x. (limits.bytes < length (bytes_of kinds place x)) × Meets kinds place limits outcome.TooLarge x)
           t s p
       by_case _ t s p = absurd p
+
+-- ---- where a reason stands
+
+module _ (text : List ℕ) where
+  -- no JSON, nested too deep or not
+  pub stands_none : (w : JsonReason) (at : ℕ) → NoneRead w (λ d. nested_text (suc d) text ≡ None)
+      → StandsAt text w at
+  stands_none w at (inl m) = subst (λ (x : JsonReason). StandsAt text x at) (sym m) tt
+  stands_none w at (inr (inl d)) = subst (λ (x : JsonReason). StandsAt text x at) (sym d.0) (inl d.1)
+  stands_none w at (inr (inr n)) = subst (λ (x : JsonReason). StandsAt text x at) (sym n.0) tt
+
+  -- an allocation failure, or the first fault of the text
+  pub stands_found : (kinds : List KindView) (due : Due) (w : JsonReason) (at : ℕ)
+      → (w ≡ why.NoMemory) ⊎ IsFirst kinds due w → StandsAt text w at
+  stands_found kinds due w at (inl m) = subst (λ (x : JsonReason). StandsAt text x at) (sym m) tt
+  stands_found kinds due w at (inr h) = by_case w (of_first kinds (due ∷ []) w h)
+    where
+      by_case : (w : JsonReason) → IsOfNode w → StandsAt text w at
+      by_case why.TooDeep n = absurd n
+      by_case why.TooLarge n = absurd n
+      by_case _ n = tt
+
+  -- the end of the text, whatever the reason
+  pub stands_behind : (w : JsonReason) (at : ℕ) → at ≡ length text → StandsAt text w at
+  stands_behind why.TooDeep at e = inr e
+  stands_behind why.TooLarge at e = e
+  stands_behind _ at e = tt

@@ -271,9 +271,9 @@ pub record IsBeyond (kinds : List KindView) (place : ℕ) (text : List ℕ) (Pas
 abbrev pub Meets : List KindView → (place : ℕ) → Bounds → (ending : ℕ → Ending) → Tree → Type 0
 Meets kinds place limits ending t = (p : ℕ) × Outcome kinds place limits (bytes_of kinds place t) (ending p)
 
--- what each reason says of the text
+-- what each reason says of the text. No memory is taken of a text that is not in UTF-8
 abbrev pub Tells : List KindView → (place : ℕ) → Bounds → (text : List ℕ) → JsonReason → Type 0
-Tells kinds place limits text why.NoMemory = ⊤
+Tells kinds place limits text why.NoMemory = IsUtf8 text
 Tells kinds place limits text why.NotJson = IsNoJson text
 Tells kinds place limits text why.TooDeep =
     (json_text text ≡ None)
@@ -282,3 +282,9 @@ Tells kinds place limits text why.TooLarge =
     IsBeyond kinds place text (λ t. (limits.bytes < length (bytes_of kinds place t))
     × Meets kinds place limits outcome.TooLarge t)
 Tells kinds place limits text w = IsWrongText kinds place text w
+
+-- a value that passes a limit is refused at the end of the text
+abbrev pub StandsAt : (text : List ℕ) → JsonReason → (at : ℕ) → Type 0
+StandsAt text why.TooDeep at = (json_text text ≡ None) ⊎ (at ≡ length text)
+StandsAt text why.TooLarge at = at ≡ length text
+StandsAt text _ at = ⊤

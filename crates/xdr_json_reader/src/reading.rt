@@ -3,7 +3,7 @@ ghost use Rattle.std.specs.Prelude.{◌≡◌, ◌<◌, ◌≤◌, ◌⊎◌, le
 ghost use Rattle.xdr_types.specs.Tree.{Tree};
 ghost use Rattle.xdr_types.specs.View.{tree};
 ghost use Rattle.xdr_json.specs.Text.{IsSpelling, SpellsNone};
-ghost use Rattle.xdr_json_reader.specs.Reasons.{Tells};
+ghost use Rattle.xdr_json_reader.specs.Reasons.{StandsAt, Tells};
 ghost use Rattle.xdr_json_reader.specs.Private.Limited.{limit_reason};
 ghost use Rattle.xdr_json_reader.specs.declared.fault.JsonReason.TheVariants.{NoMemory};
 
@@ -29,8 +29,8 @@ use xdr_types::{KindId, Limits, Schema, Value};
 ///
 /// Of several faults the first in the order of the text is told. Text that is no JSON comes before all others, and the
 /// limits on a value come behind them, at the text's end. That a text that is no JSON is `TooDeep` only beyond 4096
-/// open brackets is tested, and no clause says it. So is the place, which is where the refused value or key begins. Of
-/// both limits the one is told that the value's bytes meet first.
+/// open brackets is tested, and no clause says it. So is any other place, which is where the refused value or key
+/// begins. Of both limits the one is told that the value's bytes meet first. `NoMemory` comes of text in UTF-8 alone.
 ///
 /// No call recurses, whatever the text; the drop of what was read does, one level a call, at most 4096. Memory is of
 /// the size of the text and of the declarations, and nothing is reserved by a declared count.
@@ -49,8 +49,9 @@ pub fn read_json(
     // a text that is refused spells none, an allocation failure aside,
     ensures refused { IfErr result (λ f. (f.why ≡ NoMemory)
         ⊎ SpellsNone schema.now.kinds kind.place limits text.now) }
-    // and the place lies in the text.
+    // and the place lies in the text, that of a limit on the value at its end.
     ensures place { IfErr result (λ f. f.at ≤ length text.now) }
+    ensures end { IfErr result (λ f. StandsAt text.now f.why f.at) }
     // The reason is right of the text, and that of its first fault.
     ensures why { IfErr result (λ f. Tells schema.now.kinds kind.place limits text.now f.why) }
 {

@@ -1,4 +1,4 @@
-use Rattle.std.proofs.Common.{◌≡◌, ℕ, suc, arith, List, inl, inr, None, take, sym, ap, ◌∙◌, subst}
+use Rattle.std.proofs.Common.{◌≡◌, ◌⊎◌, ℕ, suc, arith, List, inl, inr, None, take, sym, ap, ◌∙◌, subst}
 use Rattle.xdr_types.specs.Tree.{Tree}
 use Rattle.xdr_types.specs.Spelling.{bytes_of}
 use Rattle.xdr_types.specs.View.{tree}
@@ -8,10 +8,10 @@ use Rattle.xdr_stream.specs.Finish.{EndsWith}
 use Rattle.xdr_json_reader.specs.Tape.{json_in}
 use Rattle.xdr_json_reader.specs.Private.Limited.{limit_reason}
 use Rattle.xdr_json_reader.specs.Private.Steps.{NoneRead}
-use Rattle.xdr_json_reader.specs.Reasons.{nested_text, Tells}
+use Rattle.xdr_json_reader.specs.Reasons.{nested_text, IsFirst, Tells}
 use Rattle.xdr_json_reader.specs.declared.fault.JsonReason.TheVariants.{NoMemory}
 use Rattle.xdr_json_reader.proofs.Meant.{root_means}
-use Rattle.xdr_json_reader.proofs.Telling.{tells_first, tells_none, tells_limit}
+use Rattle.xdr_json_reader.proofs.Telling.{stands_behind, stands_found, stands_none, tells_first, tells_none, tells_limit}
 use Rattle.xdr_json_reader.proofs.Answered.{none_spelled, not_utf8, no_bytes, is_spelled, refused_bytes}
 use Rattle.xdr_json_reader.proofs.reading.read_json.Goals as goal
 use Rattle.xdr_json_reader.proofs.reading.read_json.Goals.{After-drop-scratch-in-Ok-decode-2}
@@ -82,7 +82,7 @@ pub returns-in-Err-read_tree-clause-why : goal.returns-in-Err-read_tree-clause-w
 returns-in-Err-read_tree-clause-why c =
     let w = c.in-Err-read_tree.fault.why in
     tells_none c.args.schema.now.kinds c.args.kind.place c.args.limits c.args.text.now c.in-Err-read_tree.fault.why
-    (subst (λ (t : List ℕ). NoneRead w (λ d. nested_text (suc d) t ≡ None)) c.in-Ok.ensures.cases.0
+    c.in-Ok.ensures.cases.1 (subst (λ (t : List ℕ). NoneRead w (λ d. nested_text (suc d) t ≡ None)) c.in-Ok.ensures.cases.0
     c.in-Err-read_tree.ensures.refused)
 
 pub returns-in-Err-bytes_in-clause-why : goal.returns-in-Err-bytes_in-clause-why
@@ -93,7 +93,7 @@ returns-in-Err-bytes_in-clause-why c =
     let j = json_in c.in-Ok-read_tree.tree in
     let w = c.first_fault-fault.result.why in
     let no_memory : w ≡ NoMemory → Tells kinds place c.args.limits c.args.text.now w =
-    λ m. tells_none kinds place c.args.limits c.args.text.now w (inl m) in
+    λ m. tells_none kinds place c.args.limits c.args.text.now w c.in-Ok.ensures.cases.1 (inl m) in
     elim c.in-Err-bytes_in.ensures [
       | inl m ↦ no_memory (c.first_fault-fault.ensures.memory m)
       | inr n ↦ elim c.first_fault-fault.ensures.first [
@@ -117,3 +117,31 @@ returns-clause-why c =
     c.in-Ok-bytes_in.ensures.0
     (subst (λ (bs : List ℕ). EndsWith kinds place c.args.limits bs c.in-Err-decode.fault) c.as_slice.ensures.value
     c.in-Err-decode.ensures.fault)
+
+pub returns-in-Err-read_tree-clause-end : goal.returns-in-Err-read_tree-clause-end
+returns-in-Err-read_tree-clause-end c =
+    let w = c.in-Err-read_tree.fault.why in
+    stands_none c.args.text.now w c.in-Err-read_tree.fault.at
+    (subst (λ (t : List ℕ). NoneRead w (λ d. nested_text (suc d) t ≡ None)) c.in-Ok.ensures.cases.0
+    c.in-Err-read_tree.ensures.refused)
+
+pub returns-in-Err-bytes_in-clause-end : goal.returns-in-Err-bytes_in-clause-end
+returns-in-Err-bytes_in-clause-end c =
+    let kinds = c.args.schema.now.kinds in
+    let place = c.args.kind.place in
+    let j = json_in c.in-Ok-read_tree.tree in
+    let w = c.first_fault-fault.result.why in
+    let found : (w ≡ NoMemory) ⊎ IsFirst kinds (place, j) w = elim c.in-Err-bytes_in.ensures [
+      | inl m ↦ inl (c.first_fault-fault.ensures.memory m)
+      | inr n ↦ elim c.first_fault-fault.ensures.first [
+        | inl m ↦ inl m
+        | inr f ↦ elim f [
+          | inl first ↦ inr first
+          | inr right ↦ absurd (n (bytes_of kinds place right.0) (root_means kinds place j right.0 right.1))
+        ]
+      ]
+    ] in
+    stands_found c.args.text.now kinds (place, j) w _ found
+
+pub returns-clause-end : goal.returns-clause-end
+returns-clause-end c = stands_behind c.args.text.now c.reason_of.result _ (omega arith)
