@@ -26,7 +26,8 @@ use Rattle.xdr_json.specs.Text.{deepest, json_text}
 use Rattle.xdr_json_reader.specs.Reasons.{is_mark, numeral_reason, number_reason, name_reason, digits_reason}
 use Rattle.xdr_json_reader.specs.Reasons.{hex_reason, text_reason, list_reason, void_reason, tag_reason, form_reason}
 use Rattle.xdr_json_reader.specs.Reasons.{IsOfMembers, ChoiceTells, no_case, bad_case, no_arm, bad_arm, NodeTells}
-use Rattle.xdr_json_reader.specs.Reasons.{IsBeyond, Meets, nested_text, StandsAt, Tells, IsFirst, IsRight, Fault, kind_under}
+use Rattle.xdr_json_reader.specs.Reasons.{IsBeyond, Meets, nested_text, Tells, IsFirst, IsRight, Fault, kind_under}
+use Rattle.xdr_json_reader.specs.Reasons.{StandsAt}
 use Rattle.xdr_json_reader.specs.Reasons.{key_reason, refused_key, front, values, behind, here, in_part, lacks}
 use Rattle.xdr_json_reader.specs.Reasons.{in_member, on_key}
 use Rattle.xdr_json_reader.specs.Nodes.{Due, inside}

@@ -1,5 +1,5 @@
 -- Datagrams of other calls are passed over.
-use Rattle.std.proofs.Common.{◌≡◌, ℕ, List, [], ◌∷◌, ◌++◌, take, refl, sym, arith}
+use Rattle.std.proofs.Common.{ℕ, List, [], ◌∷◌, ◌++◌, take, refl, sym, arith}
 use Rattle.std.proofs.Common.{length-append}
 use Rattle.xdr_io.proofs.Chained.{Counts-trans}
 use Rattle.rpc_engine.specs.Exchanged.{read_failures}
@@ -30,7 +30,8 @@ returns-in-Err g c =
     let inv = c.passing.invariant in
     let count = inv.passed.2 in
     record {
-      answered = failed_at c.args.xid most_passed _ _ _ inv.passed.0 (omega (arith, count)) inv.passed.1 c.in-Err.ensures.received;
+      answered = failed_at c.args.xid most_passed _ _ _ inv.passed.0 (omega (arith, count)) inv.passed.1
+          c.in-Err.ensures.received;
       unsent = Sends-trans _ _ _ [] [] [] refl inv.unsent c.in-Err.ensures.unsent;
       read = Counts-trans _ _ _ 0 1 1 refl inv.read c.in-Err.ensures.failed;
       write = Counts-trans _ _ _ 0 0 0 refl inv.write c.in-Err.ensures.none_failed;

@@ -11,7 +11,8 @@ use Rattle.xdr_json_reader.specs.Private.Steps.{NoneRead}
 use Rattle.xdr_json_reader.specs.Reasons.{nested_text, IsFirst, Tells}
 use Rattle.xdr_json_reader.specs.declared.fault.JsonReason.TheVariants.{NoMemory}
 use Rattle.xdr_json_reader.proofs.Meant.{root_means}
-use Rattle.xdr_json_reader.proofs.Telling.{stands_behind, stands_found, stands_none, tells_first, tells_none, tells_limit}
+use Rattle.xdr_json_reader.proofs.Telling.{stands_behind, stands_found, stands_none}
+use Rattle.xdr_json_reader.proofs.Telling.{tells_first, tells_none, tells_limit}
 use Rattle.xdr_json_reader.proofs.Answered.{none_spelled, not_utf8, no_bytes, is_spelled, refused_bytes}
 use Rattle.xdr_json_reader.proofs.reading.read_json.Goals as goal
 use Rattle.xdr_json_reader.proofs.reading.read_json.Goals.{After-drop-scratch-in-Ok-decode-2}
@@ -82,7 +83,8 @@ pub returns-in-Err-read_tree-clause-why : goal.returns-in-Err-read_tree-clause-w
 returns-in-Err-read_tree-clause-why c =
     let w = c.in-Err-read_tree.fault.why in
     tells_none c.args.schema.now.kinds c.args.kind.place c.args.limits c.args.text.now c.in-Err-read_tree.fault.why
-    c.in-Ok.ensures.cases.1 (subst (λ (t : List ℕ). NoneRead w (λ d. nested_text (suc d) t ≡ None)) c.in-Ok.ensures.cases.0
+    c.in-Ok.ensures.cases.1
+    (subst (λ (t : List ℕ). NoneRead w (λ d. nested_text (suc d) t ≡ None)) c.in-Ok.ensures.cases.0
     c.in-Err-read_tree.ensures.refused)
 
 pub returns-in-Err-bytes_in-clause-why : goal.returns-in-Err-bytes_in-clause-why
