@@ -76,6 +76,20 @@ WORKED = [
     ),
     ("", "", '{"constants":[],"types":[],"programs":[]}\n'),
 ]
+# The same in rpcgen's dialect: names of names, which stand for the numbers that C prints of them behind rpcgen's header.
+NAMED = [
+    (
+        "const Y = 3; const Z = Y; const X = Z; enum e { A = X }; const B = A; typedef int t[X];\n"
+        "program P { version V { void F(void) = B; } = Z; } = X; const G = F; const H = G;",
+        "const Y 3\nconst Z 3\nconst X 3\nconst A 3\nconst B 3\nconst G 3\nconst H 3\ntype e enum 4..4\ntype t array 12..12\n"
+        "program P 3\nversion V 3.3\nprocedure F 3.3.3\n",
+        '{"constants":[{"name":"Y","value":3},{"name":"Z","value":3},{"name":"X","value":3},{"name":"A","value":3},'
+        '{"name":"B","value":3},{"name":"G","value":3},{"name":"H","value":3}],'
+        '"types":[{"name":"e","kind":"enum","least":4,"greatest":4},{"name":"t","kind":"array","least":12,"greatest":12}],'
+        '"programs":[{"name":"P","number":3,"versions":[{"name":"V","number":3,"procedures":['
+        '{"name":"F","number":3,"arguments":[],"result":null}]}]}]}\n',
+    ),
+]
 
 
 def printed(program, folder, words):
@@ -84,10 +98,11 @@ def printed(program, folder, words):
 
 
 def worked_rows(program, folder):
-    for text, lines, told in WORKED:
+    dialect = ["--dialect", "rpcgen"]
+    for words, (text, lines, told) in [*(([], row) for row in WORKED), *((dialect, row) for row in NAMED)]:
         with open(f"{folder}/worked.x", "w", encoding="ascii") as it:
             it.write(text)
-        got = [printed(program, folder, ["--types", "worked.x", *more]) for more in ([], ["--json"])]
+        got = [printed(program, folder, [*words, "--types", "worked.x", *more]) for more in ([], ["--json"])]
         well = got == [(0, lines, ""), (0, told, "")]
         yield tell(f"oncrpc types of {text[:40]!r}..", well, got)
 

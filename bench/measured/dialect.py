@@ -54,7 +54,7 @@ class Maker:
         return self.one(self.whole(), self.random.choice(self.constants) if self.constants else "7")
 
     def number_or_name(self):
-        """A number, or the name of a constant that is given one."""
+        """A number, or the name of a constant that is given one, or a name that has one."""
         return self.one(self.whole(), self.random.choice(self.numbers) if self.numbers else "7")
 
     def kind(self):
@@ -85,7 +85,7 @@ class Maker:
             return f'const {name} = "some text";'
         if "-" not in made:
             self.constants.append(name)
-            self.numbers += [name] if re.search(r"\d+;?$", made) and not re.search(r"= [A-Z]", made) else []
+            self.numbers.append(name)
         return made
 
     def enumeration(self):

@@ -95,11 +95,19 @@ HOSTILE = {
     "one long name": lambda size: "typedef int " + "n" * (size - 13) + ";",
     "one long constant": lambda size: "const a=" + "0" * (size - 9) + ";",
 }
-# The same in rpcgen's dialect: names that lines define, and as many lines that ask for another.
+# The same in rpcgen's dialect: names that lines define, and as many lines that ask for another; and constants, each of
+# which is given the name of the one before it, to an end without a number too.
 ASKED = "#ifdef b\n#endif\n"
 HOSTILE_DIALECT = {
     "a name that is defined again and again": lambda size: many(size // 2, lambda n: "#define a\n")
     + many(size // 2, lambda n: ASKED),
     "names that are defined": lambda size: many(size // 2, lambda n: f"#define a{spelled(n)}\n")
     + many(size // 2, lambda n: ASKED),
+    "constants by the one before": lambda size: many(
+        size, lambda n: f"const a{spelled(n + 1)}=a{spelled(n)};", "const aaaa=1;", "const b=c;"
+    ),
+    "the same beside a name that has two numbers so": lambda size: many(
+        size, lambda n: f"const a{spelled(n + 1)}=a{spelled(n)};", "const aaaa=1;const b=2;", "enum e{c=b,c=aaaa};"
+    ),
+    "constants by the one behind": lambda size: many(size, lambda n: f"const a{spelled(n)}=a{spelled(n + 1)};"),
 }

@@ -131,7 +131,7 @@ def debian_cases():
 
 def most_constructs_cases():
     """As many of one construct as a text may have: sections in one another, members without numbers, names in place of
-    numbers, and names of arguments."""
+    numbers, each one's name or each the one before, and names of arguments."""
     empty = same_answers()
     yield Case("read", text=b""), empty
     yield dialect(b"#if 1\n" * 20164 + b"#endif\n" * 20164), empty
@@ -141,7 +141,12 @@ def most_constructs_cases():
     yield dialect(text), lambda told: is_read(told) and constants_of(told) == numbered
     aliases = b"const b=7;" + b"".join(b"const A%04x=b;" % number for number in range(18723))
     arguments = b"program P{version V{void F(" + b",".join([b"int a"] * 43600) + b")=1;}=1;}=2;"
-    for text, plain in ((aliases, aliases.replace(b"=b;", b"=7;")), (arguments, arguments.replace(b"int a", b"int"))):
+    chain = b"const A0000=7;" + b"".join(b"const A%04x=A%04x;" % (number + 1, number) for number in range(14562))
+    for text, plain in (
+        (aliases, aliases.replace(b"=b;", b"=7;")),
+        (chain, re.sub(b"=A[^;]*;", b"=7;", chain)),
+        (arguments, arguments.replace(b"int a", b"int")),
+    ):
         is_same = same_answers()
         yield Case("read", text=plain), is_same
         yield dialect(text), is_same

@@ -159,7 +159,7 @@ def wants_memory(told, whole, case):
             return is_unexchanged(told)
         case "exchange":
             return told.answer == NO_MEMORY and told.streams[0] in (b"", whole.streams[0])
-        case "decode" | "parts" | "find":
+        case "decode" | "parts" | "find" | "Schema::build":
             return bool(fault) and told.answer == fault[0] and int(fault[1]) <= len(case.given)
         case "Decoder" | "Checker":
             count = int(told.answer.partition(" ")[0])
@@ -456,11 +456,16 @@ def given_back_cases():
 
 
 def declared_alone_cases(heap):
-    """A decoder takes as much memory with a count or a length of 4000 as with one of 1, while nothing stands behind."""
+    """A decoder takes as much memory with a count or a length of 4000 as with one of 1, while nothing stands behind. Lent
+    parts take as much with all the content of a mebibyte as with four bytes of it."""
     for kind, text in (("big", MORE), ("t", CHAINED), ("opaque", b""), ("string", b"")):
         one, many = (Case("Decoder", kind=kind, text=text, given=word(count)) for count in (1, 4000))
         first = run([one], LD_PRELOAD=heap)[0]
         yield many, lambda told, first=first: "Truncated at 4" in told.answer and told == first
+    few, many = (Case("parts", kind="opaque", given=word(count) + bytes(count)) for count in (4, 1 << 20))
+    first = run([few], LD_PRELOAD=heap)[0]
+    yield many, lambda told: (told.met, told.counts) == (first.met, first.counts) and told.answer.count("; ") == 1
+    yield few, lambda told: told.met > 0 and told.counts[0] > 0
 
 
 def without_nodes_cases():

@@ -1,6 +1,7 @@
 """Rows written out, large and deep inputs, and lengths that are only declared."""
 import itertools
 
+from rows.codec import NEST
 from rows.growths import CHAINED
 from rows.large import MANY, NULL_REPLY, WIDE
 from rows.shared import (
@@ -190,6 +191,10 @@ def deep_cases():
         wanted = "ok", streams
         yield Case(engine, **kind), lambda told, wanted=wanted: (told.answer, told.streams) == wanted
     yield Case("Value::copy", **kind), lambda told: told.answer == "equal"
+    # Optionals inside one another, and arrays.
+    for text, name in ((NEST, "nest"), (b"typedef list list<>;", "list")):
+        case = Case("Value::copy", kind=name, text=text, given=word(1) * 4095 + word(0))
+        yield case, lambda told: told.answer == "equal"
     yield Case("encode_to", writes=(1, 0), **kind), lambda told: (told.answer, told.streams) == ("ok 16380", [given])
     yield Case("Writer::put", **kind), is_told(4094, ["done", "ok 16380"], [given], b"")
     entries = ["flag:1", "content:"] * 2047
@@ -219,6 +224,9 @@ def declared_cases():
         case = Case(engine, (piece, 0), kind="t", text=CHAINED, given=given)
         wanted = f"{-(-8000 // piece)} pieces; more; more; {fault_of('Truncated', 8000)}; 0 growths"
         yield case, lambda told, wanted=wanted: told.answer == wanted
+    # What is enough to be read.
+    case = Case("FromRead", limit=4294967295, given=b"abc")
+    yield case, lambda told: (told.answer, told.streams) == ("ok; ok", [b"abc", b""])
     given = octets("ffffffff 61")
     yield Case("RecordReader", (1, 0), limit=2147483647, given=given), handed_out(2147483647, given)
     yield Case("normalise", (1, 0), limit=2147483647, given=given), normalised(2147483647, given, (1, 0), (1, 0))

@@ -23,6 +23,9 @@ LIBRARY = (
 )
 NETBUF = " struct netbuf { unsigned int maxlen ; opaque buf < > ; } ;"
 
+# A name with a number or a name behind it, and the arguments of a procedure between them.
+GIVEN = re.compile(r" (?=([A-Za-z]\w*) (?:\( [^()]*\) )?= (-?\w+) )", re.A)
+
 
 class Lines:
     """The lines of a text, one after another, for the names that are defined."""
@@ -138,13 +141,33 @@ def library(tokens):
     return "".join(each for name, each in made if f" {name} " in tokens and not is_declared(name, tokens))
 
 
+def by_names(given, numbers):
+    """The names that are given a name which has a number there, each with its place and its number; none where a name
+    has two so."""
+    found = {}
+    for it in given:
+        number = numbers.get(it[2]) or found.get(it[2], (0, None))[1]
+        if number is not None:
+            first = numbers.get(it[1]) or found.setdefault(it[1], (it.start(), number))[1]
+            if value(first) != value(number):
+                return {}
+    return found
+
+
 def without_aliases(tokens):
-    """The tokens with its number in place of each name between = and ; to which they give one."""
-    given = re.findall(r" (?=([A-Za-z]\w*) (?:\( [^()]*\) )?= (-?[0-9]\w*) )", tokens)
-    numbers = {name: number for name, number in given}
-    if any(value(numbers[name]) != value(number) for name, number in given):
+    """The tokens with its number in place of each name between = and ; to which they give one, or before it a name that
+    has one there."""
+    given = list(GIVEN.finditer(tokens))
+    numbers = {it[1]: it[2] for it in given if not it[2][0].isalpha()}
+    if any(value(numbers[it[1]]) != value(it[2]) for it in given if not it[2][0].isalpha()):
         return tokens
-    return re.sub(r"(?<= = )([A-Za-z]\w*)(?= ; )", lambda it: numbers.get(it[1], it[1]), tokens)
+    followed = by_names([it for it in given if it[2][0].isalpha()], numbers)
+
+    def number(it):
+        place, number = followed.get(it[1], (len(tokens), None))
+        return numbers.get(it[1]) or (number if place < it.start() else it[1])
+
+    return re.sub(r"(?<= = )([A-Za-z]\w*)(?= ; )", number, tokens)
 
 
 def in_the_rfcs_language(text, names):

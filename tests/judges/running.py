@@ -11,6 +11,7 @@ PROGRAM = os.environ.get("PROBE", f"{ROOT}/crates/tool_probe/out/tool_probe")
 PROGRAM_MORE = os.environ.get("PROBE_MORE", f"{ROOT}/crates/tool_probe_more/out/tool_probe_more")
 # The calls that the second of these programs makes.
 MORE_CALLS = "write_json json_of_bytes read_json find read_dialect join_texts place_in Bounds::of SessionTable".split()
+MORE_CALLS += "Schema::build FromRead IntoWrite Direction".split()
 # The keys of a case's fields that are not theirs with `-` in place of `_`, in the order in which they are written.
 NAMED = {"reads": ("read", "read-fails"), "writes": ("write", "write-fails"), "given": ("input",)}
 # The fields that are texts to read: declarations, names, and digits.

@@ -156,6 +156,32 @@ SAME = [
         b"const A = 1; program P { version V { void F(void) = 1; } = 1; version W { void F(void) = 1; } = 2; } = 3;",
         b"const A = F; program P { version V { void F(void) = 1; } = 1; version W { void F(void) = 1; } = 2; } = 3;",
     ),
+    # The number of a name that was given a name before it, by a const, a member or a procedure: what rpcgen's macros are.
+    (
+        b"const Y = 3; const Z = 3; const X = 3; typedef int t[3];",
+        b"const Y = 3; const Z = Y; const X = Z; typedef int t[X];",
+        b"#define Y 3\nconst Z = Y;\nconst X = Z; typedef int t[X];",
+    ),
+    (
+        b"const Z = -1; const X = -1; const Y = -1; const W = -1;",
+        b"const Z = Y; const X = Z; const Y = -1; const W = X;",
+    ),
+    (
+        b"const X = 3; enum e { A = 3 }; const B = 3; const C = 3;",
+        b"const X = 3; enum e { A = X }; const B = A; const C = B;",
+    ),
+    (
+        b"const C = 3; const D = 3; program P { version V { void F(void) = 3; } = 3; } = 3; const G = 3; const H = 3;",
+        b"const C = 3; const D = C; program P { version V { void F(void) = D; } = D; } = D; const G = F; const H = G;",
+        b"const C = 3; const D = C; program P { version V { void F() = D; } = D; } = D; const G = F; const H = G;",
+    ),
+    # Where a name has two numbers by names, it may stand where it is no name for a number.
+    (
+        b"const A = 1; const B = 2;"
+        b" program P { version V { void F(void) = 1; } = 1; version W { void F(void) = 2; } = 2; } = 3;",
+        b"const A = 1; const B = 2;"
+        b" program P { version V { void F(void) = A; } = A; version W { void F(void) = B; } = B; } = 3;",
+    ),
     (b"typedef opaque netobj<9>; typedef netobj t;", b"typedef opaque netobj<9>; typedef netobj t;"),
 ]
 
@@ -264,11 +290,27 @@ REFUSED = [
     (b"struct s { int enum x; };", 3, 0, 1, 16),
     (b"typedef int float;", 3, 0, 1, 13),
     (b"program P { version V { void F(int a b) = 1; } = 1; } = 2;", 3, 0, 1, 36),
-    # A name to which the text gives no number, a name, or, to any name, two numbers.
+    # A name to which the text gives no number, or, to any name, two numbers; a name that is given a name behind it, or
+    # itself; a name that two versions give different names, and each name that is given a name then.
     (b"const A = B;", 3, 0, 1, 11),
     (b"const A = B; const B = C; const C = 5;", 3, 0, 1, 11),
     (b"const A = B; const B = 1; enum e { C = 1 }; program P { version V { void C(void) = 2; } = 1; } = 2;", 3, 0, 1, 11),
     (b"program P { version V { void F(void) = 1; } = W; } = 2;", 3, 0, 1, 47),
+    (b"const Y = 3; const A = B; const B = Y;", 3, 0, 1, 24),
+    (b"const S = S;", 3, 0, 1, 11),
+    (b"const A = B; const B = A;", 3, 0, 1, 11),
+    (b"const Y = 3; const Z = Y; const X = W;", 3, 0, 1, 37),
+    (b"const T = TRUE;", 3, 0, 1, 11),
+    (
+        b"const A = 1; const B = 2;\n"
+        b"program P { version V { void F(void) = A; } = 1; version W { void F(void) = B; } = 2; } = 3;\nconst Z = F;",
+        *(3, 0, 3, 11),
+    ),
+    (
+        b"const A = 1; const B = 2; const C = A;\n"
+        b"program P { version V { void F(void) = A; } = 1; version W { void F(void) = B; } = 2; } = 3;\nconst Z = C;",
+        *(3, 0, 3, 11),
+    ),
     # The number that stands in place of a name stands where the name does.
     (b"const N = -1; program P { version V { void F(void) = 1; } = 1; } = N;", 8, 0, 1, 68),
     # Which fault of two it is: one of the lines of `#`, then a token, then the grammar, then a name.

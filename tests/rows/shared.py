@@ -374,7 +374,7 @@ Case = collections.namedtuple(
     "Case",
     "call reads writes refuse kind text hex given zeros depth bytes limit first second steps version count count_again "
     "transport before after front clients clients_read_fails replies datagrams port_fails types types_read_fails "
-    "faults_write_fails call_write_fails calls items seed layout path names texts line most bound events",
+    "faults_write_fails call_write_fails calls items seed layout path names texts line most bound events kinds over error",
     defaults=(
         (4096, 0),
         (4096, 0),
@@ -395,6 +395,6 @@ Case = collections.namedtuple(
         0,
         None,
         *[0] * 3,
-        *[None] * 11,
+        *[None] * 14,
     ),
 )

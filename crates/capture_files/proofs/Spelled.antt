@@ -18,8 +18,7 @@ use Rattle.capture_files.specs.Numbers.{number, half_at, word_at}
 use Rattle.capture_files.specs.Runs.{PacketView, StateView, beginning, step_at, IsWhole, IsGathered}
 use Rattle.capture_files.specs.Runs.{IsUnit, behind, packets_in, packet_in, Leads}
 use Rattle.capture_files.specs.Spelled.{bytes_of, word, HeaderView, RecordView, header_bytes, record_bytes}
-use Rattle.capture_files.specs.Spelled.{records_bytes}
-use Rattle.capture_files.specs.Spelled.{spelled, IsHeader, IsRecord, packet_of, SpelledFilesAreRead}
+use Rattle.capture_files.specs.Spelled.{records_bytes, spelled, IsHeader, IsRecord, packet_of, SpelledFilesAreRead}
 use Rattle.capture_files.specs.Spelled.{SpelledFilesHaveNoOthers}
 use Rattle.capture_files.specs.Steps.{start_step, step_of}
 use Rattle.capture_files.proofs.Once.{one_reading}

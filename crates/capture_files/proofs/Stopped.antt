@@ -17,8 +17,7 @@ use Rattle.capture_files.specs.Runs.{left_of, IsUnit, IsUnitOf, behind, Leads, M
 use Rattle.capture_files.specs.Runs.{NothingIsRefused, NothingIsCut}
 use Rattle.capture_files.specs.Steps.{step_of}
 use Rattle.capture_files.proofs.Once.{IsDone, whole_done, asks_no_unit, need_is, same_length, least_is, fronts_same}
-use Rattle.capture_files.proofs.Once.{same_unit}
-use Rattle.capture_files.proofs.Once.{unfold_pass, rest_passes, rest_same}
+use Rattle.capture_files.proofs.Once.{same_unit, unfold_pass, rest_passes, rest_same}
 use Rattle.capture_files.proofs.Passed.{nothing_passes}
 use Rattle.capture_files.proofs.Represented.{made}
 use Rattle.capture_files.proofs.Taking.{refused_more}

@@ -48,15 +48,15 @@ IsAhead d sequence = 2 ^ 31 < lead_of d.first d.due sequence
 abbrev pub begin_ahead : Direction → (sequence : ℕ) → ℕ
 begin_ahead d sequence = d.due + lead_of d.first d.due sequence - 2 ^ 31
 
--- Behind its first bytes, so many, which count as taken, the next n of a segment that begins ahead are the piece that
--- would be held.
+-- Of a segment that begins ahead so many bytes count as taken. The next n of it are the piece that would be held next.
 abbrev pub IsNextPiece : (old new : Direction) → (sequence : ℕ) → (bytes : List ℕ) → (taken n : ℕ) → Type 0
 IsNextPiece old new sequence bytes taken n =
     IsGap new.pieces.by_last (begin_ahead old sequence + taken) (length bytes - taken) n
 
--- When a segment is refused, or its bytes from one on. For the limit: it begins ahead, and with the next piece of it
--- the direction would count more. For want of memory: all was taken, or it does not begin ahead, or with that piece the
--- direction would count no more. For want of places: the due one is behind place 2^62.
+-- When a segment is refused, or its bytes from one on. For the limit: it begins ahead, and with its next piece the
+-- direction would count more than the limit. For want of memory: all of it was taken, or it does not begin ahead, or
+-- with its next piece the direction would count no more than that. For want of places: the due one is behind place
+-- 2^62.
 abbrev pub RefusedFor : (old new : Direction) → (sequence : ℕ) → (bytes : List ℕ) → Refusal → Type 0
 RefusedFor old new sequence bytes (refusal.Full taken) =
     (taken < length bytes) × IsAhead old sequence

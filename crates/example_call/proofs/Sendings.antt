@@ -40,8 +40,9 @@ answer_none xid left' w (Err fault.TooManyReads) text h (inr s) = s
 answer_none xid left' w (Err fault.NoMemory) text h (inl s) = s
 answer_none xid left' w (Err fault.NoMemory) text h (inr s) = s
 
-pub nothing_answered : (xid : ℕ) (left left' : Reported) (w : Wanted) (answer : Result Reply ClientFault)
-    (text : List ℕ) → left ≡ Some [] → Answered xid left left' answer → Shows w answer text ⊎ Refuses w answer text → ⊥
+pub nothing_answered : {most : ℕ} (xid : ℕ) (left left' : Reported) (w : Wanted) (answer : Result Reply ClientFault)
+    (text : List ℕ) → left ≡ Some [] → Answered xid most left left' answer
+    → Shows w answer text ⊎ Refuses w answer text → ⊥
 nothing_answered xid left left' w answer text none a t =
     let before = still a.before a.passed
     (subst (λ (l : Reported). Receives l a.before a.passed) none a.over.received) in
@@ -93,8 +94,9 @@ answer_other xid left' m w (Err fault.TooManyReads) text o h (inr s) = s
 answer_other xid left' m w (Err fault.NoMemory) text o h (inl s) = s
 answer_other xid left' m w (Err fault.NoMemory) text o h (inr s) = s
 
-pub other_answered : (xid : ℕ) (left left' : Reported) (m : List ℕ) (w : Wanted) (answer : Result Reply ClientFault)
-    (text : List ℕ) → IsOther xid m → left ≡ Some (m ∷ []) → Answered xid left left' answer
+pub other_answered : {most : ℕ} (xid : ℕ) (left left' : Reported) (m : List ℕ) (w : Wanted)
+    (answer : Result Reply ClientFault) (text : List ℕ) → IsOther xid m → left ≡ Some (m ∷ [])
+    → Answered xid most left left' answer
     → Shows w answer text ⊎ Refuses w answer text → ⊥
 other_answered xid left left' m w answer text o one a t =
     by a.passed (subst (λ (l : Reported). Receives l a.before a.passed) one a.over.received)

@@ -87,3 +87,123 @@ pub fn name_with_two_numbers(alloc: Global) -> Result<Vec<Token<'static>>, Alloc
     ];
     resolved_tokens(alloc, &tokens)
 }
+
+/// `Y = 3; Z = Y; X = Z;`: a name that was given a name is what that is.
+pub fn name_of_a_name(alloc: Global) -> Result<Vec<Token<'static>>, AllocError>
+    ensures { IfOk result (λ v. lexemes v.items ≡
+        Name (codes "Y") ∷ Sign Mark.Equal ∷ Number (pos 3) ∷ Sign Mark.Semicolon ∷
+        Name (codes "Z") ∷ Sign Mark.Equal ∷ Number (pos 3) ∷ Sign Mark.Semicolon ∷
+        Name (codes "X") ∷ Sign Mark.Equal ∷ Number (pos 3) ∷ Sign Mark.Semicolon ∷ []) }
+{
+    let tokens = [
+        Token::Name("Y", 12),
+        Token::Sign(Mark::Equal, 11),
+        Token::Number(3, 10),
+        Token::Sign(Mark::Semicolon, 9),
+        Token::Name("Z", 8),
+        Token::Sign(Mark::Equal, 7),
+        Token::Name("Y", 6),
+        Token::Sign(Mark::Semicolon, 5),
+        Token::Name("X", 4),
+        Token::Sign(Mark::Equal, 3),
+        Token::Name("Z", 2),
+        Token::Sign(Mark::Semicolon, 1),
+    ];
+    resolved_tokens(alloc, &tokens)
+}
+
+/// `{ M = Y } Z = M; Y = 3`: so is a member of an enumeration, where the text gives the number behind it.
+pub fn name_of_a_member(alloc: Global) -> Result<Vec<Token<'static>>, AllocError>
+    ensures { IfOk result (λ v. lexemes v.items ≡
+        Sign Mark.OpenBrace ∷ Name (codes "M") ∷ Sign Mark.Equal ∷ Name (codes "Y") ∷ Sign Mark.CloseBrace ∷
+        Name (codes "Z") ∷ Sign Mark.Equal ∷ Number (pos 3) ∷ Sign Mark.Semicolon ∷
+        Name (codes "Y") ∷ Sign Mark.Equal ∷ Number (pos 3) ∷ []) }
+{
+    let tokens = [
+        Token::Sign(Mark::OpenBrace, 12),
+        Token::Name("M", 11),
+        Token::Sign(Mark::Equal, 10),
+        Token::Name("Y", 9),
+        Token::Sign(Mark::CloseBrace, 8),
+        Token::Name("Z", 7),
+        Token::Sign(Mark::Equal, 6),
+        Token::Name("M", 5),
+        Token::Sign(Mark::Semicolon, 4),
+        Token::Name("Y", 3),
+        Token::Sign(Mark::Equal, 2),
+        Token::Number(3, 1),
+    ];
+    resolved_tokens(alloc, &tokens)
+}
+
+/// `Z = Z;`: a name that is given itself stays.
+pub fn name_of_itself(alloc: Global) -> Result<Vec<Token<'static>>, AllocError>
+    ensures { IfOk result (λ v. lexemes v.items ≡
+        Name (codes "Z") ∷ Sign Mark.Equal ∷ Name (codes "Z") ∷ Sign Mark.Semicolon ∷ []) }
+{
+    let tokens = [
+        Token::Name("Z", 4),
+        Token::Sign(Mark::Equal, 3),
+        Token::Name("Z", 2),
+        Token::Sign(Mark::Semicolon, 1),
+    ];
+    resolved_tokens(alloc, &tokens)
+}
+
+/// `Y = 3; X = Z; Z = Y;`: so does a name that is given a name behind it.
+pub fn name_given_a_name_behind_it(alloc: Global) -> Result<Vec<Token<'static>>, AllocError>
+    ensures { IfOk result (λ v. lexemes v.items ≡
+        Name (codes "Y") ∷ Sign Mark.Equal ∷ Number (pos 3) ∷ Sign Mark.Semicolon ∷
+        Name (codes "X") ∷ Sign Mark.Equal ∷ Name (codes "Z") ∷ Sign Mark.Semicolon ∷
+        Name (codes "Z") ∷ Sign Mark.Equal ∷ Number (pos 3) ∷ Sign Mark.Semicolon ∷ []) }
+{
+    let tokens = [
+        Token::Name("Y", 12),
+        Token::Sign(Mark::Equal, 11),
+        Token::Number(3, 10),
+        Token::Sign(Mark::Semicolon, 9),
+        Token::Name("X", 8),
+        Token::Sign(Mark::Equal, 7),
+        Token::Name("Z", 6),
+        Token::Sign(Mark::Semicolon, 5),
+        Token::Name("Z", 4),
+        Token::Sign(Mark::Equal, 3),
+        Token::Name("Y", 2),
+        Token::Sign(Mark::Semicolon, 1),
+    ];
+    resolved_tokens(alloc, &tokens)
+}
+
+/// `A = 1; B = 2; F = A; F = B; Z = F;`: a name with two numbers by names stands for none.
+pub fn name_with_two_names(alloc: Global) -> Result<Vec<Token<'static>>, AllocError>
+    ensures { IfOk result (λ v. lexemes v.items ≡
+        Name (codes "A") ∷ Sign Mark.Equal ∷ Number (pos 1) ∷ Sign Mark.Semicolon ∷
+        Name (codes "B") ∷ Sign Mark.Equal ∷ Number (pos 2) ∷ Sign Mark.Semicolon ∷
+        Name (codes "F") ∷ Sign Mark.Equal ∷ Number (pos 1) ∷ Sign Mark.Semicolon ∷
+        Name (codes "F") ∷ Sign Mark.Equal ∷ Number (pos 2) ∷ Sign Mark.Semicolon ∷
+        Name (codes "Z") ∷ Sign Mark.Equal ∷ Name (codes "F") ∷ Sign Mark.Semicolon ∷ []) }
+{
+    let tokens = [
+        Token::Name("A", 20),
+        Token::Sign(Mark::Equal, 19),
+        Token::Number(1, 18),
+        Token::Sign(Mark::Semicolon, 17),
+        Token::Name("B", 16),
+        Token::Sign(Mark::Equal, 15),
+        Token::Number(2, 14),
+        Token::Sign(Mark::Semicolon, 13),
+        Token::Name("F", 12),
+        Token::Sign(Mark::Equal, 11),
+        Token::Name("A", 10),
+        Token::Sign(Mark::Semicolon, 9),
+        Token::Name("F", 8),
+        Token::Sign(Mark::Equal, 7),
+        Token::Name("B", 6),
+        Token::Sign(Mark::Semicolon, 5),
+        Token::Name("Z", 4),
+        Token::Sign(Mark::Equal, 3),
+        Token::Name("F", 2),
+        Token::Sign(Mark::Semicolon, 1),
+    ];
+    resolved_tokens(alloc, &tokens)
+}

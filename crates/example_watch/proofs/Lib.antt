@@ -3,3 +3,4 @@ pub mod Captures
 pub mod Hole
 pub mod Read
 pub mod Taken
+pub mod Waiting

@@ -1,6 +1,8 @@
 -- Files of captured packets, byte by byte.
-use Rattle.std.specs.Prelude.{ℕ, List, [], ◌∷◌, ◌++◌, Some}
+use Rattle.std.specs.Prelude.{ℕ, List, [], ◌∷◌, ◌++◌, false, Some}
+use Rattle.capture_files.specs.declared.numbers.Order.TheVariants.{Little}
 use Rattle.capture_files.specs.Runs.{PacketView}
+use Rattle.capture_files.specs.Spelled.{HeaderView, RecordView}
 
 -- a header of the classic format, the lowest byte first: microseconds, version 2.4, and Ethernet
 abbrev pub classic_header : List ℕ
@@ -18,6 +20,21 @@ classic_file = classic_header ++ classic_record
 abbrev pub classic_packet : PacketView
 classic_packet =
     record { link = 1; time = Some 1000002; resolution = 6; original = 5; content = 7 ∷ 8 ∷ 9 ∷ [] }
+
+-- what that header and that record say
+abbrev pub classic_view : HeaderView
+classic_view = record {
+  order = Little;
+  nanoseconds = false;
+  first_unused = 0;
+  second_unused = 0;
+  snapshot = 262144;
+  link = 1;
+  above = 0;
+}
+
+abbrev pub record_view : RecordView
+record_view = record { seconds = 1; fraction = 2; original = 5; content = 7 ∷ 8 ∷ 9 ∷ [] }
 
 -- a section of pcapng, the highest byte first, of an unknown length, and its block's length once more
 abbrev pub section_head : List ℕ

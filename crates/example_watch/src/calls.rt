@@ -1,5 +1,5 @@
 //! Worked facts of calls that wait.
-ghost use Rattle.std.specs.Prelude.{◌≡◌, None, Some, IfOk};
+ghost use Rattle.std.specs.Prelude.{◌≡◌, None, Some, IfOk, true};
 
 use oncrpc_messages::Asked;
 use oncrpc_watch::CallTable;
@@ -40,4 +40,24 @@ pub fn once(alloc: Global, call: Asked) -> Result<Option<Asked>, AllocError>
     table.note(3, 7, call)?;
     let _first = table.take(3, 7);
     Ok(table.take(3, 7))
+}
+
+/// One of which memory is refused leaves the one that waits.
+pub fn refused(alloc: Global, call: Asked, later: Asked) -> Result<Option<Asked>, AllocError>
+    ensures { IfOk result (λ found. found ≡ Some call) }
+{
+    let mut table = CallTable::new(alloc);
+    table.note(3, 7, call)?;
+    match table.note(3, 7, later) {
+        Ok(()) => Err(AllocError),
+        Err(AllocError) => Ok(table.take(3, 7)),
+    }
+}
+
+/// At first none waits.
+pub fn none_at_first(alloc: Global) -> bool
+    ensures { result ≡ true }
+{
+    let table = CallTable::new(alloc);
+    table.is_empty()
 }

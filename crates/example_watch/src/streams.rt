@@ -73,6 +73,18 @@ pub fn needs_no_space(alloc: Global) -> bool
     }
 }
 
+/// Where nothing may be held, bytes ahead of the due place are refused for the limit, before memory is asked for.
+pub fn wants_space_first(alloc: Global) -> bool
+    ensures { result ≡ true }
+{
+    let mut direction = Direction::start(alloc, 1000, 0);
+    let mut out = Vec::new(alloc);
+    match direction.take(1004, b"ef", &mut out) {
+        Err(Refusal::NoMemory { taken }) => taken != 0,
+        _ => true,
+    }
+}
+
 /// The number behind 2^32 - 1 is 0.
 pub fn wraps(alloc: Global) -> Result<Vec<u8>, Refusal>
     ensures { IfOk result (λ out. out.items ≡ codes "abcd") }

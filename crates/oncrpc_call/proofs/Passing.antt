@@ -31,6 +31,14 @@ over_then xid a b c ps qs p q = record {
   received = Receives-trans a b c ps qs (ps ++ qs) refl p.received q.received;
 }
 
+-- nothing is received while a call is sent
+pub over_sending : (xid : ℕ) (a b c : Reported) (ps : List (List ℕ)) → PassesOver xid a b ps → Receives b c []
+    → PassesOver xid a c ps
+over_sending xid a b c ps p none = record {
+  others = p.others;
+  received = Receives-trans a b c ps [] ps (append-nil ps) p.received none;
+}
+
 -- one more datagram of another call
 pub over_more : (xid : ℕ) (a b c : Reported) (ps : List (List ℕ)) (m : List ℕ) → PassesOver xid a b ps
     → Receives b c (m ∷ []) → IsOther xid m → PassesOver xid a c (ps ++ m ∷ [])
@@ -69,12 +77,15 @@ no_device xid m (Err fault.TooManyReads) says = absurd says
 no_device xid m (Err (fault.Record f)) says = absurd says
 
 -- datagrams that are passed over before others are
-pub answered_then : (xid : ℕ) (a b c : Reported) (ps : List (List ℕ)) (answer : Result Reply ClientFault)
-    → PassesOver xid a b ps → Answered xid b c answer → Answered xid a c answer
-answered_then xid a b c ps answer p h =
+pub answered_then : (xid few more most : ℕ) (a b c : Reported) (ps : List (List ℕ)) (answer : Result Reply ClientFault)
+    → length ps ≤ few → few + more ≤ most → PassesOver xid a b ps → Answered xid more b c answer
+    → Answered xid most a c answer
+answered_then xid few more most a b c ps answer short enough p h =
     let longer = length-append ps h.passed in
+    let own = h.few in
     record {
       passed = ps ++ h.passed;
+      few = omega (arith, longer, own, short, enough);
       before = h.before;
       over = over_then xid a b h.before ps h.passed p h.over;
       answered = h.answered;
@@ -82,12 +93,15 @@ answered_then xid a b c ps answer p h =
     }
 
 -- where a receive failed, all that was received was passed over
-pub unanswered_over : (xid : ℕ) (a b c : Reported) (ps : List (List ℕ)) → PassesOver xid a b ps
-    → Answered xid b c (Err fault.Read) → (qs : List (List ℕ)) × PassesOver xid a c qs
-unanswered_over xid a b c ps p h =
-    let last : PassesOver xid h.before c [] = record { others = tt; received = h.answered } in (
-      ps ++ h.passed ++ [],
-      over_then xid a h.before c (ps ++ h.passed) [] (over_then xid a b h.before ps h.passed p h.over) last,
+pub unanswered_over : (xid few more most : ℕ) (a b c : Reported) (ps : List (List ℕ)) → length ps ≤ few
+    → few + more ≤ most → PassesOver xid a b ps → Answered xid more b c (Err fault.Read)
+    → (qs : List (List ℕ)) × PassesOver xid a c qs × (length qs ≤ most)
+unanswered_over xid few more most a b c ps short enough p h =
+    let longer = length-append ps h.passed in
+    let own = h.few in (
+      ps ++ h.passed,
+      over_sending xid a h.before c (ps ++ h.passed) (over_then xid a b h.before ps h.passed p h.over) h.answered,
+      omega (arith, longer, own, short, enough),
     )
 
 -- the failed receives of an answer that no failed send has
@@ -118,15 +132,11 @@ sent_again a b c d n call datagram before one none same =
     Sends-trans a c d (replicate (n + 1) call) [] (replicate (n + 1) call) (append-nil (replicate (n + 1) call))
     (Sends-trans a b c (replicate n call) (datagram ∷ []) (replicate (n + 1) call) joined before one) none
 
--- nothing is received while it is sent
-pub over_sending : (xid : ℕ) (a b c : Reported) (ps : List (List ℕ)) → PassesOver xid a b ps → Receives b c []
-    → PassesOver xid a c (ps ++ [])
-over_sending xid a b c ps p none = over_then xid a b c ps [] p (record { others = tt; received = none })
-
 -- a call that could not be made
-pub nothing_asked : (xid : ℕ) (a : Reported) → Answered xid a a (Err fault.NoMemory)
-nothing_asked xid a = record {
+pub nothing_asked : (xid most : ℕ) (a : Reported) → Answered xid most a a (Err fault.NoMemory)
+nothing_asked xid most a = record {
   passed = [];
+  few = omega arith;
   before = a;
   over = over_none xid a;
   answered = inl (Receives-none a);
@@ -138,10 +148,11 @@ pub sent_then : (a b c : Reported) (ds : List (List ℕ)) → Sends a b ds → S
 sent_then a b c ds before none = Sends-trans a b c ds [] ds (append-nil ds) before none
 
 -- a call that could not be sent once more
-pub unsent_at : (xid : ℕ) (a b : Reported) (ps : List (List ℕ)) → PassesOver xid a b (ps ++ [])
-    → Answered xid a b (Err (fault.Write 0))
-unsent_at xid a b ps p = record {
-  passed = ps ++ [];
+pub unsent_at : (xid most : ℕ) (a b : Reported) (ps : List (List ℕ)) → length ps ≤ most → PassesOver xid a b ps
+    → Answered xid most a b (Err (fault.Write 0))
+unsent_at xid most a b ps short p = record {
+  passed = ps;
+  few = short;
   before = b;
   over = p;
   answered = (refl, Receives-none b);
@@ -149,29 +160,30 @@ unsent_at xid a b ps p = record {
 }
 
 -- a call to which nothing came
-pub unread_at : (xid : ℕ) (a b : Reported) (ps : List (List ℕ)) → PassesOver xid a b ps
-    → Answered xid a b (Err fault.Read)
-unread_at xid a b ps p =
-    record { passed = ps; before = b; over = p; answered = Receives-none b; many = λ e. cc }
+pub unread_at : (xid most : ℕ) (a b : Reported) (ps : List (List ℕ)) → length ps ≤ most → PassesOver xid a b ps
+    → Answered xid most a b (Err fault.Read)
+unread_at xid most a b ps short p =
+    record { passed = ps; few = short; before = b; over = p; answered = Receives-none b; many = λ e. cc }
 
 -- the receive that fails behind datagrams of other calls
-pub failed_at : (xid : ℕ) (a b c : Reported) (ps : List (List ℕ)) → PassesOver xid a b ps → Receives b c []
-    → Answered xid a c (Err fault.Read)
-failed_at xid a b c ps p none =
-    record { passed = ps; before = b; over = p; answered = none; many = λ e. cc }
+pub failed_at : (xid most : ℕ) (a b c : Reported) (ps : List (List ℕ)) → length ps ≤ most → PassesOver xid a b ps
+    → Receives b c [] → Answered xid most a c (Err fault.Read)
+failed_at xid most a b c ps short p none =
+    record { passed = ps; few = short; before = b; over = p; answered = none; many = λ e. cc }
 
 -- too many datagrams of other calls
-pub too_many_at : (xid : ℕ) (a b : Reported) (ps : List (List ℕ)) → PassesOver xid a b ps → most_passed ≤ length ps
-    → Answered xid a b (Err fault.TooManyReads)
-too_many_at xid a b ps p most =
-    record { passed = ps; before = b; over = p; answered = Receives-none b; many = λ e. most }
+pub too_many_at : (xid most : ℕ) (a b : Reported) (ps : List (List ℕ)) → length ps ≤ most → PassesOver xid a b ps
+    → most_passed ≤ length ps → Answered xid most a b (Err fault.TooManyReads)
+too_many_at xid most a b ps short p many =
+    record { passed = ps; few = short; before = b; over = p; answered = Receives-none b; many = λ e. many }
 
 -- the message that is of no other call
-pub spoken_at : (xid : ℕ) (a b c : Reported) (ps : List (List ℕ)) (m : List ℕ) (answer : Result Reply ClientFault)
-    → (IsOther xid m → ⊥) → PassesOver xid a b ps → Receives b c (m ∷ []) → Replies xid m answer
-    → Answered xid a c answer
-spoken_at xid a b c ps m answer own p r says = record {
+pub spoken_at : (xid most : ℕ) (a b c : Reported) (ps : List (List ℕ)) (m : List ℕ)
+    (answer : Result Reply ClientFault) → length ps ≤ most → (IsOther xid m → ⊥) → PassesOver xid a b ps
+    → Receives b c (m ∷ []) → Replies xid m answer → Answered xid most a c answer
+spoken_at xid most a b c ps m answer short own p r says = record {
   passed = ps;
+  few = short;
   before = b;
   over = p;
   answered = spoken_of xid b c m answer own r says;

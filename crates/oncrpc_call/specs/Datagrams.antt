@@ -1,5 +1,5 @@
 -- What is sent and received where a call is made by datagrams (RFC 5531 section 9).
-use Rattle.std.specs.Prelude.{◌≡◌, ◌≢◌, ◌⊎◌, ℕ, ◌+◌, ◌-◌, ◌≤◌, List, [], ◌∷◌, ◌++◌, length, replicate, Option}
+use Rattle.std.specs.Prelude.{◌≡◌, ◌≢◌, ◌⊎◌, ℕ, ◌+◌, ◌*◌, ◌-◌, ◌≤◌, List, [], ◌∷◌, ◌++◌, length, replicate, Option}
 use Rattle.std.specs.Prelude.{Result, Err}
 use Rattle.std.specs.List.{AllByRecursion}
 use Rattle.xdr_io.specs.Reported.{Counts}
@@ -17,7 +17,7 @@ abbrev pub report_of : {P : Type 0} → (left sent : P → Reported) → (unrece
 report_of left sent unreceived unsent p =
     record { left = left p; sent = sent p; unreceived = unreceived p; unsent = unsent p }
 
--- how many datagrams of other calls are passed over after each sending
+-- how many datagrams of other calls are passed over after each sending, at most
 abbrev pub most_passed : ℕ
 most_passed = 1048576
 
@@ -49,9 +49,10 @@ IsAnswer xid left left' (Err fault.NoMemory) =
     Receives left left' [] ⊎ ((message : List ℕ) × Brings xid left left' message)
 IsAnswer xid left left' answer = (message : List ℕ) × Brings xid left left' message × Replies xid message answer
 
--- Datagrams of other calls were passed over, and the answer speaks of what came behind them.
-pub record Answered (xid : ℕ) (left left' : Reported) (answer : Result Reply ClientFault) : Type 0 where
+-- Datagrams of other calls were passed over, at most so many, and the answer speaks of what came behind them.
+pub record Answered (xid most : ℕ) (left left' : Reported) (answer : Result Reply ClientFault) : Type 0 where
   pub passed : List (List ℕ)
+  pub few : length passed ≤ most
   pub before : Reported
   pub over : PassesOver xid left before passed
   pub answered : IsAnswer xid before left' answer
@@ -72,6 +73,6 @@ pub record AsksByDatagrams (xid : ℕ) (call : List ℕ) (most : ℕ) (old new :
   pub all : answer ≡ Err fault.Read → times ≡ most
   pub none : times ≡ 0 → (answer ≡ Err fault.NoMemory) ⊎ (answer ≡ Err (fault.Write 0))
   pub sent : Sends old.sent new.sent (replicate times call)
-  pub answer_is : Answered xid old.left new.left answer
+  pub answer_is : Answered xid (times * most_passed) old.left new.left answer
   pub unreceived : Counts (unanswered times answer) old.unreceived new.unreceived
   pub unsent : Counts (write_failures answer) old.unsent new.unsent

@@ -6,7 +6,7 @@ ghost use Rattle.rpc_message.specs.View.{call_view};
 ghost use Rattle.rpc_engine.specs.Exchanged.{read_failures, write_failures};
 ghost use Rattle.rpc_engine.specs.Ports.{Sends};
 ghost use Rattle.rpc_engine.specs.declared.fault.ClientFault.TheVariants as faults;
-ghost use Rattle.oncrpc_call.specs.Datagrams.{Answered, AsksByDatagrams, IsOther, report_of};
+ghost use Rattle.oncrpc_call.specs.Datagrams.{Answered, AsksByDatagrams, IsOther, most_passed, report_of};
 
 use rpc_engine::{ClientFault, DatagramPort, PortFault, reply_to};
 use rpc_message::{Call, Reply, write_call};
@@ -19,8 +19,8 @@ pub const MOST_PASSED: u32 = 1048576;
 /// Sends the call in one datagram, and receives until a datagram comes that does not begin with another xid (RFC 5531
 /// section 9). Where a receive fails, as it does where none came in time, the call is sent once more, so many times in
 /// all. Each has the same xid, so that the reply to any of them is one. `Read` comes where the last receive failed, and
-/// `Write`, of 0 bytes, where a send failed. `TooManyReads` comes after 1048576 datagrams of other calls, and
-/// `WrongXid` and `Record` do not come.
+/// `Write`, of 0 bytes, where a send failed. For each sending at most 1048576 datagrams of other calls are passed over,
+/// and `TooManyReads` comes after as many. `WrongXid` and `Record` do not come.
 ///
 /// Credential and verifier have at most 400 bytes each, and the call at most 65507, the most of a datagram over IPv4.
 pub fn ask_by_datagrams<P: DatagramPort>(
@@ -58,7 +58,7 @@ fn receive_reply<P: DatagramPort>(
     port: &mut P,
     xid: u32,
 ) -> Result<Reply, ClientFault>
-    ensures answered { Answered xid (P.left port.old) (P.left port.new) result }
+    ensures answered { Answered xid most_passed (P.left port.old) (P.left port.new) result }
     ensures unsent { Sends (P.sent port.old) (P.sent port.new) [] }
     ensures read { Counts (read_failures result) (P.receive_failures port.old) (P.receive_failures port.new) }
     ensures write { Counts 0 (P.send_failures port.old) (P.send_failures port.new) }

@@ -1,12 +1,16 @@
 -- How writing the bytes of a value ends that is read as JSON: what the exit status says of what was read and written.
-use Rattle.std.specs.Prelude.{◌≡◌, ◌⊎◌, ℕ, ◌+◌, ◌≤◌, ◌<◌, Bool, List, length, take, Option, Vec, string_bytes}
+use Rattle.std.specs.Prelude.{◌≡◌, ◌≢◌, ◌⊎◌, ℕ, ◌+◌, ◌≤◌, ◌<◌, Bool, List, length, take, Option, Vec, string_bytes}
 use Rattle.std.specs.declared.alloc.Global.{Global}
 use Rattle.std.specs.Io.KnownBytes.{Appends}
 use Rattle.xdr_io.specs.Reported.{Counts, CountsAtMost, MovesAtMost}
 use Rattle.xdr_io.specs.declared.input.TheConstants.{MOST_READS}
+use Rattle.oncrpc_answers.specs.declared.failure.Failure.{Failure}
+use Rattle.oncrpc_answers.specs.declared.failure.Failure.TheVariants as failure
 use Rattle.oncrpc_answers.specs.declared.task.ValueTask.{ValueTask}
+use Rattle.oncrpc_answers.specs.Lines.{failure_line}
+use Rattle.oncrpc_answers.specs.Status.{failure_status}
 use Rattle.oncrpc_tasks.specs.Checked.{IsSaid}
-use Rattle.oncrpc_tasks.specs.Devices.{Reports, Stream}
+use Rattle.oncrpc_tasks.specs.Devices.{Fails, Reports, Stream}
 use Rattle.oncrpc_tasks.specs.Ends.{IsUnasked}
 use Rattle.oncrpc_tasks.specs.Refusals.{IsReason, refusal_line as reason_line}
 use Rattle.oncrpc_tasks.specs.Sources.{AreReported}
@@ -47,8 +51,18 @@ DeviceFails reports input input' output output' =
     ⊎ (Counts 1 (reports.lost output) (reports.lost output')
     ⊎ Counts MOST_READS (reports.reads input) (reports.reads input'))
 
--- What the status says where a value is looked for: 0 its bytes were written; 1 there are none, which is said; 3 a
--- device failed; 4 memory was refused. But for 0, and for 3 where a write failed, nothing was written.
+-- A device failed, too many reads were made, or memory was refused. Its line was said, as far as the stream of faults
+-- took it, and the status is its own. No other fault hides a read that failed.
+pub record FailureSaid {I O F : Type 0} (reports : Reports I O) (stream : Stream F) (input input' : I)
+    (output output' : O) (faults faults' : F) (status : ℕ) : Type 0 where
+  pub why : Failure
+  pub fails : why ≢ failure.NoMemory → Fails reports input input' output output' why
+  pub unfailed : why ≢ failure.Read → Counts 0 (reports.failures input) (reports.failures input')
+  pub status_is : status ≡ failure_status why
+  pub said : IsSaid stream faults faults' (failure_line why)
+
+-- What the status says where a value is looked for: 0 its bytes were written; 1 there are none; 3 a device failed; 4
+-- memory was refused. But for 0 it is said which. But for 0, and for 3 where a write failed, nothing was written.
 pub record ValueEncodes {I O F : Type 0} (s : Sought) (hex : Bool) (reports : Reports I O) (stream : Stream F)
     (input input' : I) (output output' : O) (faults faults' : F) (status : ℕ) : Type 0 where
   pub known : status ≤ 4
@@ -63,6 +77,7 @@ pub record ValueEncodes {I O F : Type 0} (s : Sought) (hex : Bool) (reports : Re
   pub in_part : status ≡ 3 → (output' ≡ output)
       ⊎ WritesInPart s hex (reports.left input) (reports.taken output) (reports.taken output')
   pub wanting : status ≡ 4 → output' ≡ output
+  pub told : 3 ≤ status → FailureSaid reports stream input input' output output' faults faults' status
   pub few_reads : CountsAtMost MOST_READS (reports.reads input) (reports.reads input')
   pub bounded : MovesAtMost (most_text s + 4096) (reports.left input) (reports.left input')
 

@@ -1,5 +1,5 @@
 //! What an input of JSON stands for that spells several arguments.
-ghost use Rattle.std.specs.Prelude.{◌≡◌, ◌+◌, ◌<◌, ◌≤◌, length, nat_lt, IfOk, IfErr, OnOk, IsErrOf, IsTrue};
+ghost use Rattle.std.specs.Prelude.{◌≡◌, ◌≢◌, ◌+◌, ◌<◌, ◌≤◌, length, nat_lt, IfOk, IfErr, OnOk, IsErrOf, IsTrue};
 ghost use Rattle.xdr_io.specs.Reported.{Counts, CountsAtMost, MovesAtMost};
 ghost use Rattle.xdr_io.specs.declared.input.TheConstants.{MOST_READS};
 ghost use Rattle.oncrpc_encode.specs.Arguments.{IsRightEach, IsRightEachFor, knows_each, places_of};
@@ -67,8 +67,10 @@ pub fn arguments_over<I: Source>(
     }) (I.left input.old) e) }
     // and no read failed.
     ensures none_failed { OnOk result (Counts 0 (I.failures input.old) (I.failures input.new)) }
-    // The fault Read comes after a read that failed, TooManyReads after as many reads as there may be, and Write never.
+    // The fault Read comes after a read that failed, and after every other fault none did. TooManyReads comes after as
+    // many reads as there may be, and Write never.
     ensures failed { (IsErrOf result Failure.Read → Counts 1 (I.failures input.old) (I.failures input.new))
+        × IfErr result (λ f. f ≢ Failure.Read → Counts 0 (I.failures input.old) (I.failures input.new))
         × (IsErrOf result Failure.TooManyReads → Counts MOST_READS (I.reads input.old) (I.reads input.new))
         × (IsErrOf result Failure.Write → ⊥) }
     // No more than the most reads are made, and at most a page more than the limit on a text is read.

@@ -1,5 +1,8 @@
 //! What the words ask for: a value that is read as JSON, and its bytes.
 ghost use Rattle.std.specs.Prelude.{◌≡◌, ◌⊎◌, ◌<◌, ◌≤◌, true, length, string_bytes, IfOk};
+ghost use Rattle.oncrpc_answers.specs.Lines.{failure_line};
+ghost use Rattle.oncrpc_answers.specs.Status.{failure_status};
+ghost use Rattle.oncrpc_answers.specs.declared.failure.Failure.TheVariants.{NoMemory};
 ghost use Rattle.oncrpc_tasks.specs.Checked.{IsSaid};
 ghost use Rattle.oncrpc_tasks.specs.Private.Printed.{Prints};
 ghost use Rattle.oncrpc_tasks.specs.Sources.{FileFails};
@@ -9,7 +12,7 @@ ghost use Rattle.oncrpc_encode.specs.Lines.{refusal_line, written_in};
 
 use super::encoded::{Encoded, encoded_over};
 use super::refusal::{Refusal, line_of};
-use oncrpc_answers::{Failure, ValueTask, report};
+use oncrpc_answers::{Failure, ValueTask};
 use oncrpc_tasks::{Opener, Target, refuse, say_line, target_of};
 use std::alloc::{AllocError, Global};
 use xdr_io::{Sink, Source, write_whole};
@@ -20,8 +23,9 @@ use xdr_io::{Sink, Source, write_whole};
 /// The input is read to its end, at most 16 bytes for each byte that the value may have and 1048576 more, before
 /// anything is written. 1 is a text that spells no value or is too long, and then the line of its refusal goes to
 /// `faults`, where that can be done. 2 is texts of declarations, a name or limits that are refused, in this order,
-/// before any input is read. A device that fails or too many reads are 3, an allocation failure is 4. The output gets
-/// the bytes of the value alone: nothing where the status is not 0, but what came before a write that failed.
+/// before any input is read. A device that fails or too many reads are 3, an allocation failure is 4, and then its line
+/// goes to `faults`. The output gets the bytes of the value alone: nothing where the status is not 0, but what came
+/// before a write that failed.
 ///
 /// Memory is of the size of the text and of the declarations. Each level of the value takes stack
 /// (`xdr_codec::encode`).
@@ -72,12 +76,12 @@ pub fn encode_value_over<I: Source, O: Sink, F: Sink>(
 {
     let encoded = match encoded_over(alloc, target, input) {
         Ok(encoded) => encoded,
-        Err(failure) => return report(failure, faults),
+        Err(failure) => return say_failure(failure, faults),
     };
     match encoded {
         Encoded::Bytes(bytes) => match print_bytes(alloc, bytes, hex, output) {
             Ok(()) => 0,
-            Err(failure) => report(failure, faults),
+            Err(failure) => say_failure(failure, faults),
         },
         Encoded::Refused(refusal) => say_refusal(alloc, refusal, faults),
     }
@@ -121,12 +125,24 @@ fn say_refusal<F: Sink>(alloc: Global, refusal: Refusal, faults: &mut F) -> u8
     ensures status { (result ≡ 1) ⊎ (result ≡ 4) }
     ensures said { result ≡ 1
         → IsSaid (record { taken = F.taken; lost = F.failures }) faults.old faults.new (refusal_line refusal) }
+    ensures wanting { result ≡ 4
+        → IsSaid (record { taken = F.taken; lost = F.failures }) faults.old faults.new (failure_line NoMemory) }
 {
     match line_of(alloc, refusal) {
         Ok(line) => {
             say_line(&line, faults);
             1
         }
-        Err(_) => report(Failure::NoMemory, faults),
+        Err(_) => say_failure(Failure::NoMemory, faults),
     }
+}
+
+// Writes the line of a failure, where that can be done, and gives the exit status.
+fn say_failure<F: Sink>(failure: Failure, faults: &mut F) -> u8
+    ensures status { result ≡ failure_status failure }
+    ensures said { IsSaid (record { taken = F.taken; lost = F.failures }) faults.old faults.new
+        (failure_line failure) }
+{
+    say_line(failure.line(), faults);
+    failure.status()
 }

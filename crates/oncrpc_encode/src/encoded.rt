@@ -1,5 +1,5 @@
 //! What an input of JSON stands for.
-ghost use Rattle.std.specs.Prelude.{◌≡◌, ◌+◌, ◌<◌, ◌≤◌, length, IfOk, IfErr, OnOk, IsErrOf};
+ghost use Rattle.std.specs.Prelude.{◌≡◌, ◌≢◌, ◌+◌, ◌<◌, ◌≤◌, length, IfOk, IfErr, OnOk, IsErrOf};
 ghost use Rattle.xdr_io.specs.Reported.{Counts, CountsAtMost, MovesAtMost};
 ghost use Rattle.xdr_io.specs.declared.input.TheConstants.{MOST_READS};
 ghost use Rattle.oncrpc_encode.specs.Encoding.{IsRight, IsRightFor, most_bytes, most_text, sought_of};
@@ -37,6 +37,8 @@ pub fn encoded_over<I: Source>(
     ensures none_failed { OnOk result (Counts 0 (I.failures input.old) (I.failures input.new)) }
     // The fault Read comes after a read that failed,
     ensures failed { IsErrOf result Failure.Read → Counts 1 (I.failures input.old) (I.failures input.new) }
+    // and after every other fault none did;
+    ensures unfailed { IfErr result (λ f. f ≢ Failure.Read → Counts 0 (I.failures input.old) (I.failures input.new)) }
     // TooManyReads after as many reads as there may be,
     ensures many { IsErrOf result Failure.TooManyReads → Counts MOST_READS (I.reads input.old) (I.reads input.new) }
     // and Write never.

@@ -1,6 +1,6 @@
 -- Which call a reply answers, by what was heard before it (RFC 5531 section 9: a reply has the xid of its call).
-use Rattle.std.specs.Prelude.{◌≡◌, ◌⊎◌, ℕ, ◌+◌, ◌<◌, ◌^◌, ◌==◌, ◌&&◌, Bool, false, List, [], ◌∷◌, Option, None, Some, ⊤}
-use Rattle.std.specs.Prelude.{if◌then◌else◌}
+use Rattle.std.specs.Prelude.{◌≡◌, ℕ, ◌+◌, ◌<◌, ◌==◌, ◌&&◌, Bool, false, List, [], ◌∷◌, ◌++◌, All, Option, None}
+use Rattle.std.specs.Prelude.{Some, ⊤}
 use Rattle.oncrpc_messages.specs.declared.asked.Asked.{Asked}
 use Rattle.oncrpc_messages.specs.declared.page.Said.{Said}
 use Rattle.oncrpc_messages.specs.declared.page.Said.TheVariants as said
@@ -32,16 +32,16 @@ timed time a = record {
   time = time;
 }
 
--- what it asks for where it is a call
-abbrev pub call_in : Heard → (s : Said) → Option Asked
-call_in h (said.Call x a) = Some (timed h.time a)
-call_in h _ = None
-
--- The call that waits for a reply with this xid on this way, by what was heard, the newest first: the newest message of
--- that way and xid, where it is a call and no reply.
-abbrev pub waits : List Heard → (way xid : ℕ) → Option Asked
-waits [] way xid = None
-waits (h ∷ earlier) way xid = if is_of way xid h then call_in h h.said else waits earlier way xid
+-- The call that waits for a reply with this xid on this way, by what was heard, the newest first. It is the newest of
+-- that way and xid: since then no call and no reply was.
+pub record Waits (history : List Heard) (way xid : ℕ) (asked : Asked) : Type 0 where
+  pub since : List Heard
+  pub before : List Heard
+  pub time : ℕ
+  pub says : Asked
+  pub heard : history ≡ since ++ record { way = way; time = time; said = said.Call xid says } ∷ before
+  pub newest : All (λ h. is_of way xid h ≡ false) since
+  pub asked_is : asked ≡ timed time says
 
 -- how many calls were heard
 abbrev pub one_if_call : Said → ℕ
@@ -52,10 +52,11 @@ abbrev pub calls_in : List Heard → ℕ
 calls_in [] = 0
 calls_in (h ∷ earlier) = one_if_call h.said + calls_in earlier
 
--- it is the call that waits; or none, which may be where more calls were heard than are kept at least (own)
+-- The call that is known of this way and xid is the one that waits. None is known where none waits, or where more calls
+-- were heard since than are kept at the least (own).
 abbrev pub IsKnownCall : List Heard → (way xid : ℕ) → Option Asked → Type 0
-IsKnownCall history way xid asked =
-    (asked ≡ waits history way xid) ⊎ ((asked ≡ None) × (MOST_CALLS < calls_in history))
+IsKnownCall history way xid (Some asked) = Waits history way xid asked
+IsKnownCall history way xid None = (asked : Asked) → (w : Waits history way xid asked) → MOST_CALLS < calls_in w.since
 
 -- the call to which a message answers that came on this way
 abbrev pub Answers : List Heard → (way : ℕ) → Said → Option Asked → Type 0

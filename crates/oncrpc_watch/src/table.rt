@@ -1,6 +1,7 @@
 //! The calls that wait for a reply.
 ghost use Rattle.std.specs.Prelude.{◌≤◌};
 ghost use Rattle.std.specs.BTreeMap.{btree_map_len};
+ghost use Rattle.oncrpc_watch.specs.Apart.{AreApart};
 ghost use Rattle.oncrpc_watch.specs.declared.table.TheConstants.{MOST_CALLS};
 
 use crate::key::key;
@@ -23,11 +24,12 @@ pub struct CallTable {
     older: BTreeMap<u64, Asked>,
     ghost few_newer: { btree_map_len newer ≤ MOST_CALLS },
     ghost few_older: { btree_map_len older ≤ MOST_CALLS },
+    ghost apart: { AreApart newer older },
 }
 
 impl CallTable {
-    ghost use Rattle.std.specs.Prelude.{◌≡◌, ℕ, ◌+◌, ◌*◌, ◌<◌, ◌≤◌, ◌^◌, None, Some, OnOk};
-    ghost use Rattle.oncrpc_watch.specs.Waiting.{Forgets, Keeps, spare_of, waiting};
+    ghost use Rattle.std.specs.Prelude.{◌≡◌, ◌==◌, ℕ, ◌*◌, ◌≤◌, None, Some, OnErr, OnOk};
+    ghost use Rattle.oncrpc_watch.specs.Waiting.{Answered, HasCalls, IsSame, Notes, spare_of, waiting};
 
     /// No call waits.
     pub fn new(alloc: Global) -> CallTable
@@ -59,37 +61,55 @@ impl CallTable {
         }
     }
 
-    /// How many calls are kept: 131072 at most.
+    /// How many calls wait: 131072 at most.
     pub fn len(&self) -> usize
-        ensures { result ≤ 2 * MOST_CALLS }
+        ensures calls { HasCalls self.now result }
+        ensures most { result ≤ 2 * MOST_CALLS }
     {
         self.newer.len() + self.older.len()
     }
 
-    /// Whether no call is kept.
-    pub fn is_empty(&self) -> bool {
-        self.newer.is_empty() && self.older.is_empty()
+    /// Whether no call waits.
+    pub fn is_empty(&self) -> bool
+        ensures { (count : ℕ) × HasCalls self.now count × (result ≡ (count == 0)) }
+    {
+        self.len() == 0
     }
 
     /// Notes a call that went this way with this xid. An earlier one of the same way and xid waits no more. Where 65536
-    /// have been noted since, the calls before these are forgotten. An error is an allocation failure: the call is not
-    /// noted, and some may be forgotten.
+    /// have been noted since, the calls before these are forgotten. An error is an allocation failure: then nothing is
+    /// noted, and none is forgotten.
     pub fn note(&mut self, way: u32, xid: u32, call: Asked) -> Result<(), AllocError>
-        // It waits for its reply.
-        ensures noted { OnOk result (waiting self.new way xid ≡ Some call) }
-        // No other call is changed: it waits as before, or is forgotten,
-        ensures others { Forgets self.old self.new way xid }
-        // which none is while there is a place.
-        ensures kept { OnOk result (0 < spare_of self.old → Keeps self.old self.new way xid) }
-        // It takes one place.
-        ensures spare { OnOk result (spare_of self.old ≤ 1 + spare_of self.new) }
+        ensures notes { OnOk result (Notes self.old self.new way xid call) }
+        ensures unchanged { OnErr result (IsSame self.old self.new) }
     {
         if self.newer.len() == MOST_CALLS {
-            self.older = mem::replace(&mut self.newer, BTreeMap::new(self.alloc));
+            return self.note_first(way, xid, call);
         }
         let at = key(way, xid);
         match self.newer.insert(at, call) {
-            Ok(_) => Ok(()),
+            Ok(_) => {
+                let _earlier = self.older.remove(&at);
+                Ok(())
+            }
+            Err(_) => Err(AllocError),
+        }
+    }
+
+    // The same where 65536 calls came last: they are the older ones then.
+    fn note_first(&mut self, way: u32, xid: u32, call: Asked) -> Result<(), AllocError>
+        requires full { btree_map_len self.old.newer ≡ MOST_CALLS }
+        ensures notes { OnOk result (Notes self.old self.new way xid call) }
+        ensures unchanged { OnErr result (IsSame self.old self.new) }
+    {
+        let at = key(way, xid);
+        let mut first = BTreeMap::new(self.alloc);
+        match first.insert(at, call) {
+            Ok(_) => {
+                self.older = mem::replace(&mut self.newer, first);
+                let _earlier = self.older.remove(&at);
+                Ok(())
+            }
             Err(_) => Err(AllocError),
         }
     }
@@ -99,11 +119,7 @@ impl CallTable {
     pub fn take(&mut self, way: u32, xid: u32) -> Option<Asked>
         // It is the call that was noted last with this way and this xid.
         ensures found { result ≡ waiting self.old way xid }
-        // It waits no more,
-        ensures gone { waiting self.new way xid ≡ None }
-        // and every other call as before.
-        ensures others { Keeps self.old self.new way xid }
-        ensures spare { spare_of self.old ≤ spare_of self.new }
+        ensures answered { Answered self.old self.new way xid }
     {
         let at = key(way, xid);
         let newer = self.newer.remove(&at);

@@ -29,7 +29,7 @@ pub struct Watch<'a> {
 }
 
 impl<'a> Watch<'a> {
-    ghost use Rattle.std.specs.Prelude.{◌≡◌, ℕ, List, ◌∷◌, true, IfOk, OnOk};
+    ghost use Rattle.std.specs.Prelude.{◌≡◌, ℕ, List, ◌∷◌, true, IfOk, OnErr, OnOk};
     ghost use Rattle.oncrpc_messages.specs.Messages.{SaysReply};
     ghost use Rattle.oncrpc_watch.specs.Counted.{refused};
     ghost use Rattle.oncrpc_watch.specs.Heard.{Heard};
@@ -118,7 +118,7 @@ impl<'a> Watch<'a> {
     }
 
     /// Tells a record of this way that came at this time. A reply is read by the call of its xid, which waits no more
-    /// then; a call waits for its reply. The error is an allocation failure.
+    /// then; a call waits for its reply. The error is an allocation failure: then nothing is heard, nor counted.
     pub fn tell(&mut self, way: u32, time: u64, record: &[u8]) -> Result<Told, NoMemory>
         // What is told is what its bytes say, by what was heard before,
         ensures told { IfOk result (λ t. (s : State) → IsAt self.old s
@@ -126,6 +126,7 @@ impl<'a> Watch<'a> {
         // and it is heard then, and counted.
         ensures heard { IfOk result (λ t. (s : State) → IsAt self.old s
             → IsAt self.new (heard s way time t.page t.asked)) }
+        ensures unchanged { OnErr result ((s : State) → IsAt self.old s → IsAt self.new s) }
         ensures terms { self.new.terms ≡ self.old.terms }
     {
         let asked = self.call_of(way, record);
@@ -148,6 +149,8 @@ impl<'a> Watch<'a> {
     fn note(&mut self, way: u32, time: u64, said: Said) -> Result<(), NoMemory>
         ensures recalls { OnOk result ((history : List Heard) → Recalls self.old.table history
             → Recalls self.new.table (record { way = way; time = time; said = said } ∷ history)) }
+        ensures unchanged { OnErr result ((history : List Heard) → Recalls self.old.table history
+            → Recalls self.new.table history) }
         ensures terms { self.new.terms ≡ self.old.terms }
         ensures counts { self.new.counts ≡ self.old.counts }
     {

@@ -5,6 +5,7 @@
 //! as its number.
 ghost use Rattle.std.specs.Prelude.{◌≤◌};
 
+use crate::growths;
 use std::alloc::Global;
 use std::env::Env;
 use xdr_types::Limits;
@@ -204,14 +205,14 @@ impl<'a> Case<'a> {
         let _refuses = match asked.strip_suffix("..") {
             Some(first) => {
                 let first = first.parse::<u64>().unwrap_or(0);
-                test_growths::refuse_from(self.alloc, rt, first.saturating_sub(met).max(1))
+                growths::refuse_from(self.alloc, rt, first.saturating_sub(met).max(1))
             }
             None => {
                 let number = asked.parse::<u64>().unwrap_or(0);
-                test_growths::refuse(self.alloc, rt, number.saturating_sub(met))
+                growths::refuse(self.alloc, rt, number.saturating_sub(met))
             }
         };
-        test_growths::count(rt).unwrap_or(0)
+        growths::count(rt).unwrap_or(0)
     }
 }
 
@@ -260,12 +261,12 @@ pub fn joined(before: Vec<u8>, bytes: &[u8]) -> Vec<u8> {
 
 /// How many growths there were since that many.
 pub fn since(rt: &impl Env, before: u64) -> u64 {
-    test_growths::count(rt).unwrap_or(0).saturating_sub(before)
+    growths::count(rt).unwrap_or(0).saturating_sub(before)
 }
 
 /// Refuses nothing more, and gives how many growths there were since that many.
 pub fn allow(rt: &impl Env, before: u64) -> u64 {
     let met = since(rt, before);
-    test_growths::allow(rt);
+    growths::allow(rt);
     met
 }

@@ -4,11 +4,14 @@
 //! - `case`: what a line asks for. `asked`: the kind that it names. `served`: the registry that it serves first.
 //! - `reported`: the line of what is answered. `lent`: parts of values, and why there are none. `declared`: what texts
 //!   declare.
+//! - `growths`: memory that is counted and refused. `random`: schemas, inputs and limits that a generator makes.
 #![tactic(auto)]
 
 pub mod asked;
 pub mod case;
 pub mod declared;
+pub mod growths;
 pub mod lent;
+pub mod random;
 pub mod reported;
 pub mod served;

@@ -3,7 +3,7 @@
 use rand_pcg::Pcg32;
 use std::alloc::Global;
 use test_lines::asked::Asked;
-use test_random::{below, unit};
+use test_lines::random::{below, unit};
 use xdr_codec::{Checker, Progress};
 use xdr_types::NoMemory;
 use xdr_units::{push_padded, push_word};

@@ -7,9 +7,9 @@ use crate::printed::{counted, progress};
 use crate::sinking;
 use crate::writer::{awaited, put_named, put_value};
 use std::env::Env;
-use test_growths::held;
 use test_lines::asked::{Asked, asked_of};
 use test_lines::case::{Case, allow, since};
+use test_lines::growths::{bytes, held};
 use test_lines::lent::{part_words, refusal};
 use test_lines::reported::Report;
 use xdr_codec::{
@@ -119,13 +119,16 @@ fn lent(out: &mut Report, rt: &impl Env, case: &Case<'_>, asked: &Asked<'_>, inp
         return out.text("no kind");
     }
     let before = case.refuse(rt);
+    let first = bytes(rt).unwrap_or(0);
     let answer = parts(case.alloc, asked.schema, asked.kind, asked.limits, input);
+    let asked_for = bytes(rt).unwrap_or(0).saturating_sub(first);
     out.answer(allow(rt, before));
     match &answer {
         Ok(parts) => parts_words(out, parts),
         Err(fault) => refusal(out, *fault),
     }
     out.end();
+    out.number(" asked=", asked_for);
 }
 
 // Feeds a decoder pieces of this size up to an answer that is not `More`, and gives how many it was fed and that

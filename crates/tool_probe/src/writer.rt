@@ -4,9 +4,9 @@
 use crate::items::{case_items, items_of, push_items};
 use crate::printed::progress;
 use std::env::Env;
-use test_growths::held;
 use test_lines::asked::Asked;
 use test_lines::case::{Case, allow, joined, since};
+use test_lines::growths::held;
 use test_lines::lent::refusal;
 use test_lines::reported::Report;
 use xdr_codec::{Checker, DecodeFault, Due, Reason};

@@ -1,19 +1,21 @@
 //! JSON of the value that begins the input: `write_json` by its tree, `json_of_bytes` by its bytes, in the layout of
 //! the case, compact or `indented`. And back: `read_json`, of the module `reading`. The kind `own` is a union that no
 //! text declares: of its arms, one is called `case` and one has no name.
+use crate::kinds::kinds;
 use crate::reading;
-use std::alloc::{AllocError, Global};
+use std::alloc::Global;
 use std::env::Env;
-use std::string::String;
 use test_lines::asked::{Asked, asked_of};
 use test_lines::case::{Case, allow};
 use test_lines::reported::Report;
 use xdr_codec::decode;
 use xdr_json::{Layout, json_of_bytes, write_json};
 use xdr_lang::read;
-use xdr_types::{Arm, Kind, KindId, Limits, Member, NoMemory, Schema};
+use xdr_types::{KindId, Limits, NoMemory, Schema};
 
-// Where the union stands among its kinds.
+// The kinds of the union `own` and the union, and where it stands.
+const OWN_KINDS: &str = "hyper,bool,union:1;case:0:1;:0:0";
+
 const OWN: u32 = 2;
 
 /// Reports the case.
@@ -30,34 +32,9 @@ pub fn call(out: &mut Report, rt: &impl Env, case: &Case<'_>) {
     }
 }
 
-// An arm with a case, a name and the kind of its part.
-fn arm(alloc: Global, case: i64, name: &str, place: u32) -> Result<Arm, AllocError> {
-    Ok(Arm {
-        cases: vec![in alloc; case]?,
-        member: Member {
-            name: String::from_str(alloc, name)?,
-            kind: KindId { place },
-        },
-    })
-}
-
-// The kinds of the union, and the union.
-fn own_kinds(alloc: Global) -> Result<Vec<Kind>, AllocError> {
-    let called_case = arm(alloc, 1, "case", 0)?;
-    let unnamed = arm(alloc, 0, "", 0)?;
-    let arms = vec![in alloc; called_case, unnamed]?;
-    let choice = Kind::Choice {
-        tag: KindId { place: 1 },
-        arms,
-        other: None,
-    };
-    Ok(vec![in alloc; Kind::Hyper, Kind::Bool, choice]?)
-}
-
-// Their schema.
+// The schema of the union.
 fn own_schema(alloc: Global) -> Option<Schema> {
-    let kinds = own_kinds(alloc).ok()?;
-    Schema::build(alloc, kinds, Vec::new(alloc)).ok()
+    Schema::build(alloc, kinds(alloc, OWN_KINDS), Vec::new(alloc)).ok()
 }
 
 fn of_own(out: &mut Report, rt: &impl Env, case: &Case<'_>) {

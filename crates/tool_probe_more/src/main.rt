@@ -3,14 +3,20 @@
 //! Without a line nothing is called. Each module makes the calls of one subject:
 //! - `json`: values as JSON. `reading`: JSON as values. `paths`: the part that a path names.
 //! - `dialect`: texts in rpcgen's dialect. `bounds`: how many bytes values have.
+//! - `schemas`: which lists of kinds make a schema, and what it notes of each. `kinds`: how such lists are written.
+//! - `devices`: readers and writers of std. `segments`: the bytes of a direction of a connection.
 //! - `sessions`: connections of a registry, served at once.
 #![tactic(auto)]
 
 mod bounds;
+mod devices;
 mod dialect;
 mod json;
+mod kinds;
 mod paths;
 mod reading;
+mod schemas;
+mod segments;
 mod sessions;
 
 use std::io::{self, BufRead, BufReader, BufWriter, Write};
@@ -25,6 +31,9 @@ fn call(out: &mut Report, rt: &HostRuntime, case: &Case<'_>) {
         "read_dialect" | "join_texts" | "place_in" => dialect::call(out, rt, case),
         "Bounds::of" => bounds::call(out, rt, case),
         "find" => paths::call(out, rt, case),
+        "Schema::build" => schemas::call(out, rt, case),
+        "FromRead" | "IntoWrite" => devices::call(out, case),
+        "Direction" => segments::call(out, case),
         _ => sessions::call(out, rt, case),
     }
 }

@@ -13,8 +13,8 @@ use registry_callers::{Caller, Peer};
 use registry_sessions::{OpenFault, Origin, Session, SessionFault, SessionTable, Taken};
 use rpc_record::RecordFault;
 use std::env::Env;
-use test_growths::held;
 use test_lines::case::{Case, allow, digits};
+use test_lines::growths::held;
 use test_lines::reported::Report;
 use test_lines::served::{Registry, after_word, prepared};
 

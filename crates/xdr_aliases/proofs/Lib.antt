@@ -1,2 +1,4 @@
+pub mod Following
+pub mod Giving
 pub mod Numbered
 pub mod Staying

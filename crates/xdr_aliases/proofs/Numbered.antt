@@ -1,393 +1,39 @@
 -- What a name stands for, said of a whole text.
-use Rattle.std.proofs.Common.{◌≡◌, ◌⊎◌, ℕ, suc, ℤ, pos, negsuc, Bool, true, false, not, ◌&&◌, ◌||◌, List, [], ◌∷◌}
-use Rattle.std.proofs.Common.{◌++◌, length, Option, Some, None, option_map, slice_get, refl, sym, ap, subst, ◌∙◌}
-use Rattle.std.proofs.Common.{inl, inr, arith, append_assoc, int_le}
-use Rattle.std.specs.List.{list_any}
-use Rattle.std.specs.Prelude.{◌==◌, if◌then◌else◌}
-use Rattle.std.specs.Str.{bytes_eq}
-use Rattle.std.proofs.lemmas.Bool.{cases_Bool as test, leb-true, le-leb, eqb-true}
-use Rattle.std.proofs.lemmas.Slice.Eq.{bytes_eq-Decides}
-use Rattle.xdr_tokens.specs.declared.token.Mark.{Mark}
+use Rattle.std.proofs.Common.{◌≡◌, ℕ, zero, suc, ℤ, Bool, true, false, not, List, [], ◌∷◌, ◌++◌, length}
+use Rattle.std.proofs.Common.{Option, Some, None, option_map, slice_get, refl, sym, ap, subst, ◌∙◌, inl, inr}
+use Rattle.std.proofs.lemmas.Bool.{cases_Bool as test}
 use Rattle.xdr_tokens.specs.declared.token.Mark.TheVariants as mark
 use Rattle.xdr_tokens.specs.Tokens.{Lexeme, Word, Name, Number, Sign}
-use Rattle.xdr_tokens.proofs.Options.{some_is, some_is_not}
-use Rattle.xdr_dialect.specs.Tests.{mark_number, is_sign, is_name, first_is}
+use Rattle.xdr_tokens.proofs.Options.{some_is_not}
+use Rattle.xdr_dialect.specs.Tests.{is_sign, is_name, first_is}
 use Rattle.xdr_constants.specs.Constants.{Known, known}
-use Rattle.xdr_aliases.specs.Aliases.{number_in, number_given, behind_arguments, behind_name}
-use Rattle.xdr_aliases.specs.Aliases.{given_by, with_first, given}
-use Rattle.xdr_aliases.specs.Aliases.{is_number, clashes, apart, number_or, valued, resolved_from, resolved}
-use Rattle.xdr_aliases.specs.Numbered.{equal, semicolon, is_round, AreArguments, Gives, NoneHasTwo}
-use Rattle.xdr_aliases.specs.Numbered.{NamesAre, OthersStay}
-
--- ---- truth and numbers
-
-both : (a b : Bool) → a && b ≡ true → (a ≡ true) × (b ≡ true)
-both true true e = (refl, refl)
-both true false e = absurd cc
-both false b e = absurd cc
-
-neither : (a b c : Bool) → (a || b) || c ≡ false → (a ≡ false) × (b ≡ false) × (c ≡ false)
-neither false false false e = (refl, refl, refl)
-neither true b c e = absurd cc
-neither false true c e = absurd cc
-neither false false true e = absurd cc
-
-is_false : (b : Bool) → not b ≡ true → b ≡ false
-is_false false e = refl
-is_false true e = absurd cc
-
-is_true : (b : Bool) → not b ≡ false → b ≡ true
-is_true true e = refl
-is_true false e = absurd cc
-
-true_is_not : true ≡ false → ⊥
-true_is_not e = absurd cc
-
-same_number : (a b : ℤ) → int_le a b && int_le b a ≡ true → a ≡ b
-same_number (pos a) (pos b) e =
-    let p = both (int_le (pos a) (pos b)) (int_le (pos b) (pos a)) e in
-    ap (λ (n : ℕ). pos n) (omega (arith, leb-true a b p.0, leb-true b a p.1))
-same_number (pos a) (negsuc b) e = absurd cc
-same_number (negsuc a) (pos b) e = absurd cc
-same_number (negsuc a) (negsuc b) e =
-    let p = both (int_le (negsuc a) (negsuc b)) (int_le (negsuc b) (negsuc a)) e in
-    ap (λ (n : ℕ). negsuc n) (omega (arith, leb-true b a p.0, leb-true a b p.1))
-
-least_itself : (a : ℤ) → int_le a a ≡ true
-least_itself (pos a) = le-leb a a (omega arith)
-least_itself (negsuc a) = le-leb a a (omega arith)
-
--- ---- marks
-
--- the mark with a place among all
-abbrev mark_at : ℕ → Mark
-mark_at n =
-    if n == 0 then mark.OpenBrace else
-    (if n == 1 then mark.CloseBrace else
-    (if n == 2 then mark.OpenRound else
-    (if n == 3 then mark.CloseRound else
-    (if n == 4 then mark.OpenBracket else
-    (if n == 5 then mark.CloseBracket else
-    (if n == 6 then mark.Less else
-    (if n == 7 then mark.Greater else
-    (if n == 8 then mark.Equal else
-    (if n == 9 then mark.Comma else
-    (if n == 10 then mark.Semicolon else
-    (if n == 11 then mark.Colon else mark.Star)))))))))))
-
-back : (m : Mark) → mark_at (mark_number m) ≡ m
-back mark.OpenBrace = refl
-back mark.CloseBrace = refl
-back mark.OpenRound = refl
-back mark.CloseRound = refl
-back mark.OpenBracket = refl
-back mark.CloseBracket = refl
-back mark.Less = refl
-back mark.Greater = refl
-back mark.Equal = refl
-back mark.Comma = refl
-back mark.Semicolon = refl
-back mark.Colon = refl
-back mark.Star = refl
-
-sign_of : (m : Mark) (t : Lexeme) → is_sign m t ≡ true → t ≡ Sign m
-sign_of m (Word w) e = absurd cc
-sign_of m (Name n) e = absurd cc
-sign_of m (Number n) e = absurd cc
-sign_of m (Sign k) e =
-    ap (λ (x : Mark). Sign x) (sym (back k) ∙ (ap mark_at (eqb-true (mark_number k) (mark_number m) e) ∙ back m))
-
--- ---- elements of lists
-
-abbrev IsIn : {A : Type 0} → A → List A → Type 0
-IsIn x [] = ⊥
-IsIn x (y ∷ ys) = (x ≡ y) ⊎ IsIn x ys
-
-any_of : {A : Type 0} (p : A → Bool) (xs : List A) → list_any p xs ≡ true → (x : A) × IsIn x xs × (p x ≡ true)
-any_of p [] e = absurd cc
-any_of {A} p (x ∷ xs) e =
-    elim (test (p x)) [
-      | inl on ↦ (x, inl refl, on)
-      | inr off ↦
-          let later : list_any p xs ≡ true = rw off at e in
-          let r = any_of p xs later in (r.0, inr r.1, r.2)
-    ]
-
-none_of : {A : Type 0} (p : A → Bool) (xs : List A) → list_any p xs ≡ false → (x : A) → IsIn x xs → p x ≡ false
-none_of p [] e x h = absurd h
-none_of {A} p (y ∷ ys) e x h =
-    elim (test (p y)) [
-      | inl on ↦
-          let fails : true ≡ false = rw on at e in absurd (true_is_not fails)
-      | inr off ↦
-          let later : list_any p ys ≡ false = rw off at e in
-          elim h [
-            | inl same ↦ subst (λ (z : A). p z ≡ false) (sym same) off
-            | inr there ↦ none_of p ys later x there
-          ]
-    ]
-
--- ---- numbers of names
-
--- what is found is an element
-found : (n : List ℕ) (ks : List Known) (x : ℤ × Bool) → known n ks ≡ Some x
-    → (k : Known) × IsIn k ks × (k.name ≡ n) × (k.value ≡ x.0)
-unfolding known
-found n [] x e = absurd (some_is_not x (sym e))
-found n (k ∷ ks) x e =
-    elim (test (bytes_eq k.name n)) [
-      | inl on ↦
-          let here : Some (k.value, k.by_const) ≡ Some x = rw on at e in
-          (k, inl refl, (bytes_eq-Decides k.name n).0 on, ap (λ (y : ℤ × Bool). y.0) (some_is _ x here))
-      | inr off ↦
-          let later : known n ks ≡ Some x = rw off at e in
-          let r = found n ks x later in (r.0, inr r.1, r.2, r.3)
-    ]
-
--- an element is found by its name, or another with that name
-is_known : (ks : List Known) (k : Known) → IsIn k ks → known k.name ks ≡ None → ⊥
-unfolding known
-is_known [] k h e = h
-is_known (x ∷ ks) k h e =
-    elim (test (bytes_eq x.name k.name)) [
-      | inl on ↦
-          let fails : Some (x.value, x.by_const) ≡ None = rw on at e in some_is_not _ fails
-      | inr off ↦
-          let later : known k.name ks ≡ None = rw off at e in
-          elim h [
-            | inl same ↦
-                let names : x.name ≡ k.name = ap (λ (y : Known). y.name) (sym same) in
-                true_is_not (sym ((bytes_eq-Decides x.name k.name).1 names) ∙ off)
-            | inr there ↦ is_known ks k there later
-          ]
-    ]
-
-is_that : (v : ℤ) (o : Option (ℤ × Bool)) → is_number v o ≡ true → (x : ℤ × Bool) × (o ≡ Some x) × (v ≡ x.0)
-is_that v None e = absurd cc
-is_that v (Some x) e = (x, refl, same_number v x.0 e)
-
-is_not_that : (v : ℤ) (o : Option (ℤ × Bool)) (x : ℤ × Bool) → o ≡ Some x → v ≡ x.0 → is_number v o ≡ false → ⊥
-is_not_that v o x e same fails =
-    let holds : is_number v (Some (v, x.1)) ≡ true = rw (least_itself v) refl in
-    let here : o ≡ Some (v, x.1) = e ∙ ap (λ (z : ℤ). Some (z, x.1)) (sym same) in
-    true_is_not (sym holds ∙ (ap (is_number v) (sym here) ∙ fails))
-
-none_or_some : {A : Type 0} (o : Option A) → (o ≡ None) ⊎ ((a : A) × (o ≡ Some a))
-none_or_some None = inl refl
-none_or_some (Some a) = inr (a, refl)
-
--- ---- what the text gives
-
-abbrev number_known : List ℕ → ℤ → Known
-number_known n v = record { name = n; value = v; by_const = true }
-
-two_fronts : (t u : Lexeme) (ts us : List Lexeme) → t ≡ u → ts ≡ us → t ∷ ts ≡ u ∷ us
-two_fronts t u ts us e f = ap (λ (x : Lexeme). x ∷ ts) e ∙ ap (λ (xs : List Lexeme). u ∷ xs) f
-
-plain_one : (t : Lexeme) (inside : List Lexeme) → is_sign mark.OpenRound t ≡ false → is_sign mark.CloseRound t ≡ false
-    → list_any is_round inside ≡ false → list_any is_round (t ∷ inside) ≡ false
-plain_one t inside a b c = rw (a, b) c
-
-number_front : (ts : List Lexeme) (v : ℤ) → number_in ts ≡ Some v → (behind : List Lexeme) × (ts ≡ Number v ∷ behind)
-number_front [] v e = absurd (some_is_not v (sym e))
-number_front (Word w ∷ ts) v e = absurd (some_is_not v (sym e))
-number_front (Name n ∷ ts) v e = absurd (some_is_not v (sym e))
-number_front (Number n ∷ ts) v e = (ts, ap (λ (z : ℤ). Number z ∷ ts) (some_is n v e))
-number_front (Sign m ∷ ts) v e = absurd (some_is_not v (sym e))
-
--- a number is given in front
-given_front : (ts : List Lexeme) (v : ℤ) → number_given ts ≡ Some v
-    → (behind : List Lexeme) × (ts ≡ equal ∷ Number v ∷ behind)
-given_front [] v e = absurd (some_is_not v (sym e))
-given_front (t ∷ ts) v e =
-    elim (test (is_sign mark.Equal t)) [
-      | inl on ↦
-          let front : number_in ts ≡ Some v = rw on at e in
-          let r = number_front ts v front in (r.0, two_fronts t equal ts (Number v ∷ r.0) (sign_of mark.Equal t on) r.1)
-      | inr off ↦
-          let fails : None ≡ Some v = rw off at e in absurd (some_is_not v (sym fails))
-    ]
-
--- behind arguments
-given_behind : (ts : List Lexeme) (v : ℤ) → number_given (behind_arguments ts) ≡ Some v
-    → (inside : List Lexeme) × (behind : List Lexeme) × (list_any is_round inside ≡ false)
-    × (ts ≡ inside ++ Sign mark.CloseRound ∷ equal ∷ Number v ∷ behind)
-unfolding behind_arguments
-given_behind [] v e = absurd (some_is_not v (sym e))
-given_behind (t ∷ ts) v e =
-    elim (test (is_sign mark.CloseRound t)) [
-      | inl closes ↦
-          let front : number_given ts ≡ Some v = rw closes at e in
-          let r = given_front ts v front in (
-            [],
-            r.0,
-            refl,
-            two_fronts t (Sign mark.CloseRound) ts (equal ∷ Number v ∷ r.0) (sign_of mark.CloseRound t closes) r.1,
-          )
-      | inr other ↦ elim (test (is_sign mark.OpenRound t)) [
-        | inl opens ↦
-            let here : number_given (t ∷ ts) ≡ Some v = rw (other, opens) at e in
-            let round : number_given (Sign mark.OpenRound ∷ ts) ≡ Some v =
-            subst (λ (x : Lexeme). number_given (x ∷ ts) ≡ Some v) (sign_of mark.OpenRound t opens) here in
-            absurd (some_is_not v (sym round))
-        | inr plain ↦
-            let later : number_given (behind_arguments ts) ≡ Some v = rw (other, plain) at e in
-            let r = given_behind ts v later in
-            (t ∷ r.0, r.1, plain_one t r.0 plain other r.2, ap (λ (us : List Lexeme). t ∷ us) r.3)
-      ]
-    ]
-
--- behind a name
-given_by_name : (ts : List Lexeme) (v : ℤ) → number_given (behind_name ts) ≡ Some v
-    → (args : List Lexeme) × (behind : List Lexeme) × AreArguments args × (ts ≡ args ++ equal ∷ Number v ∷ behind)
-given_by_name [] v e = absurd (some_is_not v (sym e))
-given_by_name (t ∷ ts) v e =
-    elim (test (is_sign mark.OpenRound t)) [
-      | inl opens ↦
-          let later : number_given (behind_arguments ts) ≡ Some v = rw opens at e in
-          let r = given_behind ts v later in (
-            Sign mark.OpenRound ∷ r.0 ++ Sign mark.CloseRound ∷ [],
-            r.1,
-            inr (r.0, r.2, refl),
-            two_fronts t (Sign mark.OpenRound) ts _ (sign_of mark.OpenRound t opens)
-                (r.3 ∙ sym (append_assoc r.0 (Sign mark.CloseRound ∷ []) (equal ∷ Number v ∷ r.1))),
-          )
-      | inr plain ↦
-          let here : number_given (t ∷ ts) ≡ Some v = rw plain at e in
-          let r = given_front (t ∷ ts) v here in ([], r.0, inl refl, r.1)
-    ]
-
-one_more : (t : Lexeme) (ts : List Lexeme) (n : List ℕ) (v : ℤ) → Gives ts n v → Gives (t ∷ ts) n v
-one_more t ts n v g = record {
-  before = t ∷ g.before;
-  arguments = g.arguments;
-  behind = g.behind;
-  are_arguments = g.are_arguments;
-  split = ap (λ (us : List Lexeme). t ∷ us) g.split;
-}
-
-in_front : (n : List ℕ) (ts : List Lexeme) (v : ℤ) → number_given (behind_name ts) ≡ Some v → Gives (Name n ∷ ts) n v
-in_front n ts v e =
-    let r = given_by_name ts v e in record {
-      before = [];
-      arguments = r.0;
-      behind = r.1;
-      are_arguments = r.2;
-      split = ap (λ (us : List Lexeme). Name n ∷ us) r.3;
-    }
-
-by_name : (n : List ℕ) (ts : List Lexeme) (k : Known) (o : Option ℤ) → number_given (behind_name ts) ≡ o
-    → IsIn k (with_first (option_map (number_known n) o) (given ts)) → (IsIn k (given ts) → Gives ts k.name k.value)
-    → Gives (Name n ∷ ts) k.name k.value
-by_name n ts k None e h later = one_more (Name n) ts k.name k.value (later h)
-by_name n ts k (Some v) e h later =
-    elim h [
-      | inl same ↦
-          subst (λ (x : Known). Gives (Name n ∷ ts) x.name x.value) (sym same) (in_front n ts v e)
-      | inr there ↦ one_more (Name n) ts k.name k.value (later there)
-    ]
-
--- an element has a number that the text gives it
-gives : (ts : List Lexeme) (k : Known) → IsIn k (given ts) → Gives ts k.name k.value
-unfolding given
-gives [] k h = absurd h
-gives (Word w ∷ ts) k h = one_more (Word w) ts k.name k.value (gives ts k h)
-gives (Name n ∷ ts) k h = by_name n ts k (number_given (behind_name ts)) refl h (gives ts k)
-gives (Number n ∷ ts) k h = one_more (Number n) ts k.name k.value (gives ts k h)
-gives (Sign m ∷ ts) k h = one_more (Sign m) ts k.name k.value (gives ts k h)
-
--- so has what is found
-gives_found : (ts : List Lexeme) (n : List ℕ) (x : ℤ × Bool) → known n (given ts) ≡ Some x → Gives ts n x.0
-gives_found ts n x e =
-    let r = found n (given ts) x e in
-    subst (λ (m : List ℕ). Gives ts m x.0) r.2 (subst (λ (v : ℤ). Gives ts r.0.name v) r.3 (gives ts r.0 r.1))
-
-skipped : (inside behind : List Lexeme) → list_any is_round inside ≡ false
-    → behind_arguments ((inside ++ Sign mark.CloseRound ∷ []) ++ behind) ≡ behind
-unfolding behind_arguments
-skipped [] behind h = refl
-skipped (t ∷ inside) behind h =
-    let each = neither (is_sign mark.OpenRound t) (is_sign mark.CloseRound t) (list_any is_round inside) h in
-    rw (each.1, each.0) (skipped inside behind each.2)
-
-given_number : (args : List Lexeme) (v : ℤ) (behind : List Lexeme) → AreArguments args
-    → number_given (behind_name (args ++ equal ∷ Number v ∷ behind)) ≡ Some v
-given_number args v behind a =
-    elim a [
-      | inl none ↦ rw none refl
-      | inr some ↦ rw (some.2, skipped some.0 (equal ∷ Number v ∷ behind) some.1) refl
-    ]
-
-among_more : (o : Option Known) (k : Known) (ks : List Known) → IsIn k ks → IsIn k (with_first o ks)
-among_more None k ks h = h
-among_more (Some x) k ks h = inr h
-
-in_given : (before : List Lexeme) (n : List ℕ) (args : List Lexeme) (v : ℤ) (behind : List Lexeme) → AreArguments args
-    → IsIn (number_known n v) (given (before ++ Name n ∷ (args ++ equal ∷ Number v ∷ behind)))
-unfolding given
-in_given [] n args v behind a =
-    let rest = args ++ equal ∷ Number v ∷ behind in
-    subst (λ (o : Option ℤ). IsIn (number_known n v) (with_first (option_map (number_known n) o) (given rest)))
-    (sym (given_number args v behind a)) (inl refl)
-in_given (t ∷ before) n args v behind a =
-    let rest = before ++ Name n ∷ (args ++ equal ∷ Number v ∷ behind) in
-    among_more (given_by t rest) (number_known n v) (given rest) (in_given before n args v behind a)
-
--- what the text gives is an element
-is_given : (ts : List Lexeme) (n : List ℕ) (v : ℤ) → Gives ts n v → IsIn (number_known n v) (given ts)
-is_given ts n v g =
-    subst (λ (us : List Lexeme). IsIn (number_known n v) (given us)) (sym g.split)
-    (in_given g.before n g.arguments v g.behind g.are_arguments)
-
--- ---- names with two numbers
-
-none_clashes : (ts : List Lexeme) → NoneHasTwo ts → list_any (clashes (given ts)) (given ts) ≡ false
-none_clashes ts one =
-    let ks = given ts in
-    elim (test (list_any (clashes ks) ks)) [
-      | inl holds ↦
-          let c = any_of (clashes ks) ks holds in
-          elim (none_or_some (known c.0.name ks)) [
-            | inl none ↦ absurd (is_known ks c.0 c.1 none)
-            | inr some ↦ absurd (is_not_that c.0.value (known c.0.name ks) some.0 some.1
-                (one c.0.name c.0.value some.0.0 (gives ts c.0 c.1) (gives_found ts c.0.name some.0 some.1))
-                (is_false (is_number c.0.value (known c.0.name ks)) c.2))
-          ]
-      | inr fails ↦ fails
-    ]
-
-alone : (ts : List Lexeme) → list_any (clashes (given ts)) (given ts) ≡ false → NoneHasTwo ts
-alone ts fails n u v a b =
-    let ks = given ts in
-    let first = is_that u (known n ks) (is_true (is_number u (known n ks))
-    (none_of (clashes ks) ks fails (number_known n u) (is_given ts n u a))) in
-    let second = is_that v (known n ks) (is_true (is_number v (known n ks))
-    (none_of (clashes ks) ks fails (number_known n v) (is_given ts n v b))) in
-    let same : first.0 ≡ second.0 = some_is first.0 second.0 (sym first.1 ∙ second.1) in
-    first.2 ∙ (ap (λ (x : ℤ × Bool). x.0) same ∙ sym second.2)
-
-some_clash : (ts : List Lexeme) → (NoneHasTwo ts → ⊥) → list_any (clashes (given ts)) (given ts) ≡ true
-some_clash ts two =
-    elim (test (list_any (clashes (given ts)) (given ts))) [
-      | inl holds ↦ holds
-      | inr fails ↦ absurd (two (alone ts fails))
-    ]
+use Rattle.xdr_aliases.specs.Aliases.{behind_name, name_given, given, apart, number_named, with_last, followed_one}
+use Rattle.xdr_aliases.specs.Aliases.{followed, has_clash, number_or, valued, resolved_from, resolved}
+use Rattle.xdr_aliases.specs.Numbered.{equal, semicolon, Gives, StandsFor, by_number, NoneHasTwo, NoneStandsForTwo}
+use Rattle.xdr_aliases.specs.Numbered.{with_name, Becomes, NamesAre, OthersStay}
+use Rattle.xdr_aliases.proofs.Giving.{IsIn, is_known, none_or_some, number_known, gives, gives_found, is_given}
+use Rattle.xdr_aliases.proofs.Giving.{none_clashes, some_clash}
+use Rattle.xdr_aliases.proofs.Following.{table_at, table_start, table_off, stands_at, no_clash, is_there, has}
+use Rattle.xdr_aliases.proofs.Following.{none_stands}
 
 -- ---- what stands at a place
 
-behind_one : (ks : List Known) (value : Bool) (before : List Lexeme) (u t : Lexeme) (behind : List Lexeme)
-    → slice_get (resolved_from ks value (before ++ u ∷ t ∷ behind)) (suc (length before))
-    ≡ Some (valued ks (is_sign mark.Equal u) t behind)
+behind_one : (f : Bool) (ks : List Known) (value : Bool) (before : List Lexeme) (u t : Lexeme) (behind : List Lexeme)
+    → slice_get (resolved_from f ks value (before ++ u ∷ t ∷ behind)) (suc (length before))
+    ≡ Some (valued (table_at f ks (before ++ u ∷ t ∷ behind) (suc (length before))) (is_sign mark.Equal u) t behind)
 unfolding resolved_from
-behind_one ks value [] u t behind = refl
-behind_one ks value (b ∷ before) u t behind = behind_one ks (is_sign mark.Equal b) before u t behind
+behind_one f ks value [] u t behind = refl
+behind_one f ks value (b ∷ before) u t behind =
+    behind_one f (followed_one f ks b (before ++ u ∷ t ∷ behind)) (is_sign mark.Equal b) before u t behind
 
-at_place : (ks : List Known) (value : Bool) (before : List Lexeme) (t : Lexeme) (behind : List Lexeme)
-    → (is_value : Bool)
-    × (slice_get (resolved_from ks value (before ++ t ∷ behind)) (length before) ≡ Some (valued ks is_value t behind))
+at_place : (f : Bool) (ks : List Known) (value : Bool) (before : List Lexeme) (t : Lexeme) (behind : List Lexeme)
+    → (table : List Known) × (is_value : Bool)
+    × (slice_get (resolved_from f ks value (before ++ t ∷ behind)) (length before)
+    ≡ Some (valued table is_value t behind))
 unfolding resolved_from
-at_place ks value [] t behind = (value, refl)
-at_place ks value (b ∷ before) t behind = at_place ks (is_sign mark.Equal b) before t behind
+at_place f ks value [] t behind = (ks, value, refl)
+at_place f ks value (b ∷ before) t behind =
+    at_place f (followed_one f ks b (before ++ t ∷ behind)) (is_sign mark.Equal b) before t behind
 
 no_name_stays : (ks : List Known) (value : Bool) (t : Lexeme) (behind : List Lexeme) → is_name t ≡ false
     → valued ks value t behind ≡ t
@@ -422,71 +68,201 @@ unknown_stays false (Name n) behind = refl
 unknown_stays value (Number n) behind = refl
 unknown_stays value (Sign m) behind = refl
 
-all_stay : (value : Bool) (ts : List Lexeme) → resolved_from [] value ts ≡ ts
-unfolding resolved_from
-all_stay value [] = refl
-all_stay value (t ∷ ts) =
-    rw (unknown_stays value t ts) (ap (λ (us : List Lexeme). t ∷ us) (all_stay (is_sign mark.Equal t) ts))
+-- where no name has a number, none has one by a name
+none_named : (o : Option (List ℕ)) → number_named [] o ≡ None
+unfolding known
+none_named None = refl
+none_named (Some m) = refl
 
-as_many : (ks : List Known) (value : Bool) (ts : List Lexeme) → length (resolved_from ks value ts) ≡ length ts
+none_follows : (f : Bool) (t : Lexeme) (ts : List Lexeme) → followed_one f [] t ts ≡ []
+none_follows false t ts = refl
+none_follows true (Word w) ts = refl
+none_follows true (Name n) ts =
+    ap (λ (o : Option ℤ). with_last [] (option_map (number_known n) o)) (none_named (name_given (behind_name ts)))
+none_follows true (Number n) ts = refl
+none_follows true (Sign m) ts = refl
+
+all_stay : (f value : Bool) (ts : List Lexeme) → resolved_from f [] value ts ≡ ts
 unfolding resolved_from
-as_many ks value [] = refl
-as_many ks value (t ∷ ts) = ap (λ (n : ℕ). suc n) (as_many ks (is_sign mark.Equal t) ts)
+all_stay f value [] = refl
+all_stay f value (t ∷ ts) =
+    rw (unknown_stays value t ts, none_follows f t ts)
+    (ap (λ (us : List Lexeme). t ∷ us) (all_stay f (is_sign mark.Equal t) ts))
+
+as_many : (f : Bool) (ks : List Known) (value : Bool) (ts : List Lexeme)
+    → length (resolved_from f ks value ts) ≡ length ts
+unfolding resolved_from
+as_many f ks value [] = refl
+as_many f ks value (t ∷ ts) =
+    ap (λ (n : ℕ). suc n) (as_many f (followed_one f ks t ts) (is_sign mark.Equal t) ts)
+
+-- ---- which names are followed
+
+-- they are, unless one has two numbers then
+abbrev follows : List Lexeme → Bool
+follows ts = not (has_clash (followed true (apart (given ts)) ts))
+
+-- what the text gives to names, where no name has two numbers
+apart_gives : (ts : List Lexeme) (k : Known) → IsIn k (apart (given ts)) → Gives ts k.name k.value
+apart_gives ts k h =
+    elim (test (has_clash (given ts))) [
+      | inl two ↦
+          let none : IsIn k [] = rw two at h in absurd none
+      | inr fails ↦
+          let there : IsIn k (given ts) = rw fails at h in gives ts k there
+    ]
+
+all_apart : (ts : List Lexeme) → has_clash (given ts) ≡ false → apart (given ts) ≡ given ts
+all_apart ts fails = rw fails refl
+
+-- so what is known is given
+known_gives : (ts : List Lexeme) (n : List ℕ) (x : ℤ × Bool) → known n (apart (given ts)) ≡ Some x → Gives ts n x.0
+unfolding known
+known_gives ts n x e =
+    elim (test (has_clash (given ts))) [
+      | inl two ↦
+          let fails : None ≡ Some x = rw two at e in absurd (some_is_not x (sym fails))
+      | inr one ↦
+          let here : known n (given ts) ≡ Some x = rw one at e in gives_found ts n x here
+    ]
+
+-- where no name has a number, none has one anywhere
+nothing_at : (f : Bool) (ts : List Lexeme) (p : ℕ) → table_at f [] ts p ≡ []
+nothing_at f ts zero = refl
+nothing_at f [] (suc p) = refl
+nothing_at f (t ∷ ts) (suc p) =
+    ap (λ (ks : List Known). table_at f ks ts p) (none_follows f t ts) ∙ nothing_at f ts p
+
+known_nowhere : (f : Bool) (ts : List Lexeme) (p : ℕ) (n : List ℕ) (x : ℤ × Bool)
+    → known n (table_at f [] ts p) ≡ Some x → ⊥
+unfolding known
+known_nowhere f ts p n x e = some_is_not x (sym (ap (known n) (sym (nothing_at f ts p)) ∙ e))
+
+-- what a name between = and ; becomes, by the names with their numbers
+becomes : (before : List Lexeme) (n : List ℕ) (behind : List Lexeme) (f : Bool) (ks : List Known)
+    → follows (with_name before n behind) ≡ f → apart (given (with_name before n behind)) ≡ ks
+    → Becomes before n behind (number_or n (known n (table_at f ks (with_name before n behind) (suc (length before)))))
+becomes before n behind f ks is_f is_ks =
+    let ts = with_name before n behind in
+    let here = behind_one (follows ts) (apart (given ts)) false before equal (Name n) (semicolon ∷ behind) in
+    subst (λ (xs : List Known). Becomes before n behind
+    (number_or n (known n (table_at f xs ts (suc (length before)))))) is_ks
+    (subst (λ (g : Bool). Becomes before n behind
+    (number_or n (known n (table_at g (apart (given ts)) ts (suc (length before)))))) is_f here)
+
+becomes_number : (before : List Lexeme) (n : List ℕ) (behind : List Lexeme) (o : Option (ℤ × Bool)) (x : ℤ × Bool)
+    (v : ℤ) → Becomes before n behind (number_or n o) → o ≡ Some x → x.0 ≡ v → Becomes before n behind (Number v)
+becomes_number before n behind o x v here is same =
+    here ∙ (ap (λ (p : Option (ℤ × Bool)). Some (number_or n p)) is ∙ ap (λ (z : ℤ). Some (Number z)) same)
+
+becomes_name : (before : List Lexeme) (n : List ℕ) (behind : List Lexeme) (o : Option (ℤ × Bool))
+    → Becomes before n behind (number_or n o) → ((x : ℤ × Bool) → o ≡ Some x → ⊥) → Becomes before n behind (Name n)
+becomes_name before n behind o here none =
+    elim (none_or_some o) [
+      | inl is ↦ here ∙ ap (λ (p : Option (ℤ × Bool)). Some (number_or n p)) is
+      | inr some ↦ absurd (none some.0 some.1)
+    ]
 
 -- ---- the laws
 
-numbered : (before : List Lexeme) (n : List ℕ) (v : ℤ) (behind : List Lexeme)
-    → NoneHasTwo (before ++ equal ∷ Name n ∷ semicolon ∷ behind)
-    → Gives (before ++ equal ∷ Name n ∷ semicolon ∷ behind) n v
-    → slice_get (resolved (before ++ equal ∷ Name n ∷ semicolon ∷ behind)) (suc (length before)) ≡ Some (Number v)
+numbered : (before : List Lexeme) (n : List ℕ) (v : ℤ) (behind : List Lexeme) → NoneHasTwo (with_name before n behind)
+    → Gives (with_name before n behind) n v → Becomes before n behind (Number v)
 numbered before n v behind one g =
-    let ts = before ++ equal ∷ Name n ∷ semicolon ∷ behind in
-    let all : apart (given ts) ≡ given ts = rw (none_clashes ts one) refl in
-    let here = behind_one (apart (given ts)) false before equal (Name n) (semicolon ∷ behind) in
+    let ts = with_name before n behind in
+    let here = becomes before n behind (follows ts) (given ts) refl (all_apart ts (none_clashes ts one)) in
     elim (none_or_some (known n (given ts))) [
       | inl none ↦ absurd (is_known (given ts) (number_known n v) (is_given ts n v g) none)
       | inr some ↦
-          let same : some.0.0 ≡ v = one n some.0.0 v (gives_found ts n some.0 some.1) g in
-          let is : known n (apart (given ts)) ≡ Some some.0 = ap (known n) all ∙ some.1 in
-          here ∙ (ap (λ (o : Option (ℤ × Bool)). Some (number_or n o)) is ∙ ap (λ (z : ℤ). Some (Number z)) same)
+          becomes_number before n behind (known n (table_at (follows ts) (given ts) ts (suc (length before)))) some.0 v
+          here (table_start (follows ts) (given ts) ts (suc (length before)) n some.0 some.1)
+          (one n some.0.0 v (gives_found ts n some.0 some.1) g)
+    ]
+
+named : (before : List Lexeme) (n : List ℕ) (v : ℤ) (behind : List Lexeme)
+    → NoneStandsForTwo (with_name before n behind)
+    → StandsFor (with_name before n behind) (suc (length before)) n v → Becomes before n behind (Number v)
+named before n v behind one stands =
+    let ts = with_name before n behind in
+    let place = suc (length before) in
+    let two : NoneHasTwo ts = λ m a b g h. one m a b (by_number (length ts) m a g) (by_number (length ts) m b h) in
+    let all = all_apart ts (none_clashes ts two) in
+    let fails = no_clash ts (given ts) (gives ts) one in
+    let on : follows ts ≡ true = ap (λ (ks : List Known). not (has_clash (followed true ks ts))) all ∙ ap not fails in
+    let table = table_at true (given ts) ts place in
+    let there = has ts fails place n v stands in
+    elim (none_or_some (known n table)) [
+      | inl none ↦ absurd (is_known table (number_known n v) there none)
+      | inr some ↦
+          let here = becomes before n behind true (given ts) on all in
+          becomes_number before n behind (known n table) some.0 v here some.1
+          (is_there (given ts) ts fails place n v some.0 there some.1)
     ]
 
 unnumbered : (before : List Lexeme) (n : List ℕ) (behind : List Lexeme)
-    → ((v : ℤ) → Gives (before ++ equal ∷ Name n ∷ semicolon ∷ behind) n v → ⊥)
-    → slice_get (resolved (before ++ equal ∷ Name n ∷ semicolon ∷ behind)) (suc (length before)) ≡ Some (Name n)
-unfolding known
+    → ((v : ℤ) → StandsFor (with_name before n behind) (suc (length before)) n v → ⊥)
+    → Becomes before n behind (Name n)
 unnumbered before n behind none =
-    let ts = before ++ equal ∷ Name n ∷ semicolon ∷ behind in
-    let here = behind_one (apart (given ts)) false before equal (Name n) (semicolon ∷ behind) in
-    let unknown : known n (apart (given ts)) ≡ None =
-    elim (test (list_any (clashes (given ts)) (given ts))) [
-      | inl two ↦ rw two refl
-      | inr fails ↦ rw fails (elim (none_or_some (known n (given ts))) [
-        | inl is ↦ is
-        | inr some ↦ absurd (none some.0.0 (gives_found ts n some.0 some.1))
-      ])
-    ] in
-    here ∙ ap (λ (o : Option (ℤ × Bool)). Some (number_or n o)) unknown
+    let ts = with_name before n behind in
+    let place = suc (length before) in
+    becomes_name before n behind (known n (table_at (follows ts) (apart (given ts)) ts place))
+    (becomes before n behind (follows ts) (apart (given ts)) refl refl)
+    (λ x e. none x.0 (stands_at (follows ts) ts (apart (given ts)) (apart_gives ts) place n x e))
 
 two_numbers : (ts : List Lexeme) → (NoneHasTwo ts → ⊥) → resolved ts ≡ ts
-two_numbers ts two = rw (some_clash ts two) (all_stay false ts)
+two_numbers ts two =
+    let none : apart (given ts) ≡ [] = rw (some_clash ts two) refl in
+    subst (λ (ks : List Known). resolved_from (follows ts) ks false ts ≡ ts) (sym none) (all_stay (follows ts) false ts)
+
+two_by_names : (before : List Lexeme) (n : List ℕ) (behind : List Lexeme)
+    → (NoneStandsForTwo (with_name before n behind) → ⊥)
+    → ((v : ℤ) → Gives (with_name before n behind) n v → ⊥) → Becomes before n behind (Name n)
+two_by_names before n behind two none =
+    let ts = with_name before n behind in
+    let place = suc (length before) in
+    elim (test (has_clash (followed true (apart (given ts)) ts))) [
+      | inl clash ↦
+          let table = table_at false (apart (given ts)) ts place in
+          becomes_name before n behind (known n table)
+          (becomes before n behind false (apart (given ts)) (ap not clash) refl)
+          (λ x e. none x.0 (known_gives ts n x (ap (known n) (sym (table_off (apart (given ts)) ts place)) ∙ e)))
+      | inr fails ↦ elim (test (has_clash (given ts))) [
+        | inl many ↦
+            let empty : apart (given ts) ≡ [] = rw many refl in
+            becomes_name before n behind (known n (table_at (follows ts) [] ts place))
+            (becomes before n behind (follows ts) [] refl empty)
+            (λ x e. known_nowhere (follows ts) ts place n x e)
+        | inr one ↦
+            let all = all_apart ts one in
+            absurd (two (none_stands ts (ap (λ (ks : List Known). has_clash (followed true ks ts)) (sym all) ∙ fails)))
+      ]
+    ]
 
 pub names_are : NamesAre
-names_are = record { numbered = numbered; unnumbered = unnumbered; two_numbers = two_numbers }
+names_are = record {
+  numbered = numbered;
+  named = named;
+  unnumbered = unnumbered;
+  two_numbers = two_numbers;
+  two_by_names = two_by_names;
+}
 
 pub others_stay : OthersStay
 unfolding resolved_from
 others_stay = record {
   no_name = λ before t behind h.
-      let r = at_place (apart (given (before ++ t ∷ behind))) false before t behind in
-      r.1 ∙ ap (λ (x : Lexeme). Some x) (no_name_stays (apart (given (before ++ t ∷ behind))) r.0 t behind h);
+      let ts = before ++ t ∷ behind in
+      let r = at_place (follows ts) (apart (given ts)) false before t behind in
+      r.2 ∙ ap (λ (x : Lexeme). Some x) (no_name_stays r.0 r.1 t behind h);
   no_end = λ before t behind h.
-      let r = at_place (apart (given (before ++ t ∷ behind))) false before t behind in
-      r.1 ∙ ap (λ (x : Lexeme). Some x) (no_end_stays (apart (given (before ++ t ∷ behind))) r.0 t behind h);
+      let ts = before ++ t ∷ behind in
+      let r = at_place (follows ts) (apart (given ts)) false before t behind in
+      r.2 ∙ ap (λ (x : Lexeme). Some x) (no_end_stays r.0 r.1 t behind h);
   no_equal = λ before u t behind h.
-      let ks = apart (given (before ++ u ∷ t ∷ behind)) in
-      behind_one ks false before u t behind
-      ∙ (ap (λ (b : Bool). Some (valued ks b t behind)) h ∙ ap (λ (x : Lexeme). Some x) (no_value_stays ks t behind));
+      let ts = before ++ u ∷ t ∷ behind in
+      let table = table_at (follows ts) (apart (given ts)) ts (suc (length before)) in
+      behind_one (follows ts) (apart (given ts)) false before u t behind
+      ∙ (ap (λ (b : Bool). Some (valued table b t behind)) h
+      ∙ ap (λ (x : Lexeme). Some x) (no_value_stays table t behind));
   first = λ t behind. ap (λ (x : Lexeme). Some x) (no_value_stays (apart (given (t ∷ behind))) t behind);
-  as_many = λ ts. as_many (apart (given ts)) false ts;
+  as_many = λ ts. as_many (follows ts) (apart (given ts)) false ts;
 }

@@ -1,10 +1,9 @@
 //! The names to which tokens give numbers.
 ghost use Rattle.std.specs.Prelude.{◌≡◌, IfOk, option_map};
-ghost use Rattle.std.specs.List.{list_any};
 ghost use Rattle.xdr_tokens.specs.Tokens.{lexeme, lexemes};
 ghost use Rattle.xdr_constants.specs.Views.{known_of, knowns};
 ghost use Rattle.xdr_aliases.specs.Aliases.{number_given, behind_arguments, behind_name, given_by, given};
-ghost use Rattle.xdr_aliases.specs.Aliases.{clashes, apart};
+ghost use Rattle.xdr_aliases.specs.Aliases.{clashes, has_clash, apart};
 
 use std::alloc::{AllocError, Global};
 use xdr_constants::{ConstantTable, Known};
@@ -38,7 +37,7 @@ fn behind_arguments<'t, 'a>(tokens: &'t [Token<'a>]) -> &'t [Token<'a>]
 }
 
 /// What follows a name, and the arguments behind that of a procedure.
-fn behind_name<'t, 'a>(tokens: &'t [Token<'a>]) -> &'t [Token<'a>]
+pub(crate) fn behind_name<'t, 'a>(tokens: &'t [Token<'a>]) -> &'t [Token<'a>]
     ensures { lexemes result.now ≡ behind_name (lexemes tokens.now) }
 {
     match tokens {
@@ -91,8 +90,8 @@ fn clashes(table: &ConstantTable<'_>, known: &Known<'_>) -> bool
 }
 
 /// Some name has two numbers.
-fn has_clash(table: &ConstantTable<'_>) -> bool
-    ensures { result ≡ list_any (clashes (knowns table.now.list.items)) (knowns table.now.list.items) }
+pub(crate) fn has_clash(table: &ConstantTable<'_>) -> bool
+    ensures { result ≡ has_clash (knowns table.now.list.items) }
 {
     let mut rest: &[Known<'_>] = &table.list;
     while let [first, others @ ..] = rest {

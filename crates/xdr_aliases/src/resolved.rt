@@ -1,12 +1,13 @@
 //! Numbers in place of names.
-ghost use Rattle.std.specs.Prelude.{◌≡◌, IfOk, map};
+ghost use Rattle.std.specs.Prelude.{◌≡◌, IfOk, OnOk, false, map};
 ghost use Rattle.xdr_tokens.specs.Tokens.{lexeme, lexemes};
 ghost use Rattle.xdr_constants.specs.Views.{knowns};
 ghost use Rattle.xdr_dialect.specs.Dialect.{left_of};
 ghost use Rattle.xdr_dialect.specs.Tests.{is_sign};
-ghost use Rattle.xdr_aliases.specs.Aliases.{valued, resolved};
+ghost use Rattle.xdr_aliases.specs.Aliases.{valued, followed, resolved_from, resolved};
 
-use crate::given::numbers;
+use crate::followed::follow_one;
+use crate::given::{has_clash, numbers};
 use std::alloc::{AllocError, Global};
 use xdr_constants::ConstantTable;
 use xdr_tokens::{Mark, Token};
@@ -41,11 +42,42 @@ fn valued<'a>(
     }
 }
 
+/// The tokens with numbers in place of names, by the names with numbers in the table. Where names are followed, it gets
+/// those to which tokens give a name that has a number before.
+#[tactic(auto, unfolding(crate::specs::Aliases::resolved_from, crate::specs::Aliases::followed))]
+fn written<'a>(
+    alloc: Global,
+    table: &mut ConstantTable<'a>,
+    tokens: &[Token<'a>],
+    follows: bool,
+) -> Result<Vec<Token<'a>>, AllocError>
+    ensures tokens { IfOk result (λ v. lexemes v.items
+        ≡ resolved_from follows (knowns table.old.list.items) false (lexemes tokens.now)) }
+    ensures places { IfOk result (λ v. map left_of v.items ≡ map left_of tokens.now) }
+    ensures table { OnOk result (knowns table.new.list.items
+        ≡ followed follows (knowns table.old.list.items) (lexemes tokens.now)) }
+{
+    let mut found = Vec::new(alloc);
+    let mut is_value = false;
+    let mut rest = tokens;
+    while let [first, others @ ..] = rest {
+        found.push(valued(table, is_value, *first, others))?;
+        if follows {
+            follow_one(table, *first, others)?;
+        }
+        is_value = is_equal(*first);
+        rest = others;
+    }
+    Ok(found)
+}
+
 /// The tokens, with its number in place of each name between `=` and `;` to which others give one: `NAME = NUMBER`, or
 /// `NAME(..) = NUMBER`. Where they give some name two numbers, no name stands for one.
 ///
+/// A name to which tokens before it give a name, `NAME = NAME` or `NAME(..) = NAME`, has the number which that has
+/// there. Where some name would have two numbers so, none has one by a name.
+///
 /// It fails where a growth was refused.
-#[tactic(auto, unfolding(crate::specs::Aliases::resolved_from))]
 pub fn resolved_tokens<'a>(
     alloc: Global,
     tokens: &[Token<'a>],
@@ -54,14 +86,11 @@ pub fn resolved_tokens<'a>(
     // Each stands where the token stood in whose place it is.
     ensures places { IfOk result (λ v. map left_of v.items ≡ map left_of tokens.now) }
 {
-    let table = numbers(alloc, tokens)?;
-    let mut found = Vec::new(alloc);
-    let mut is_value = false;
-    let mut rest = tokens;
-    while let [first, others @ ..] = rest {
-        found.push(valued(&table, is_value, *first, others))?;
-        is_value = is_equal(*first);
-        rest = others;
+    let mut table = numbers(alloc, tokens)?;
+    let found = written(alloc, &mut table, tokens, true)?;
+    if !has_clash(&table) {
+        return Ok(found);
     }
-    Ok(found)
+    let mut given = numbers(alloc, tokens)?;
+    written(alloc, &mut given, tokens, false)
 }

@@ -1,5 +1,5 @@
 -- The call is sent again while no receive brings a reply.
-use Rattle.std.proofs.Common.{◌≡◌, ◌+◌, ◌-◌, [], ◌++◌, Err, refl, sym, ◌∙◌, subst, arith}
+use Rattle.std.proofs.Common.{◌≡◌, ◌+◌, ◌*◌, ◌-◌, Err, refl, sym, ◌∙◌, subst, arith}
 use Rattle.std.proofs.Common.{inl, inr, replicate, Result}
 use Rattle.xdr_io.proofs.Chained.{Counts-none, Counts-trans}
 use Rattle.xdr_io.specs.Reported.{Counts}
@@ -10,7 +10,7 @@ use Rattle.rpc_engine.specs.Exchanged.{read_failures, write_failures}
 use Rattle.rpc_engine.specs.declared.fault.ClientFault.{ClientFault}
 use Rattle.rpc_engine.specs.declared.fault.ClientFault.TheVariants as fault
 use Rattle.rpc_engine.proofs.Ports.{Sends-none}
-use Rattle.oncrpc_call.specs.Datagrams.{Answered, unanswered}
+use Rattle.oncrpc_call.specs.Datagrams.{Answered, most_passed, unanswered}
 use Rattle.oncrpc_call.proofs.Passing.{answered_then, nothing_asked, over_sending, sent_again, unanswered_by}
 use Rattle.oncrpc_call.proofs.Passing.{sent_then, unanswered_over, unread_at, unsent_at}
 use Rattle.oncrpc_call.proofs.datagrams.ask_by_datagrams.Goals as goal
@@ -22,7 +22,7 @@ returns-in_default g c = record {
   all = λ e. cc;
   none = λ zero. inl refl;
   sent = Sends-none _;
-  answer_is = nothing_asked c.args.call.now.xid _;
+  answer_is = nothing_asked c.args.call.now.xid _ _;
   unreceived = Counts-none _;
   unsent = Counts-none _;
 }
@@ -42,8 +42,8 @@ returns-then-is_answered g c =
       none = λ zero. absurd (omega (arith, zero));
       sent = sent_again _ _ _ _ n (call (call_view c.args.call.now)) c.deref.result.now inv.sent
           c.in-Ok-send.ensures.sent c.receive_reply-answer.ensures.unsent own;
-      answer_is = answered_then xid _ _ _ (inv.passed.0 ++ []) answer
-          (over_sending xid _ _ _ inv.passed.0 inv.passed.1 c.in-Ok-send.ensures.unreceived)
+      answer_is = answered_then xid (n * most_passed) most_passed ((n + 1) * most_passed) _ _ _ inv.passed.0 answer
+          inv.passed.2 (omega arith) (over_sending xid _ _ _ inv.passed.0 inv.passed.1 c.in-Ok-send.ensures.unreceived)
           c.receive_reply-answer.ensures.answered;
       unreceived = Counts-trans _ _ _ n (read_failures answer) (unanswered (n + 1) answer)
           (unanswered_by n answer c.receive_reply-answer.ensures.unwritten)
@@ -63,15 +63,17 @@ asking-preserved g c =
     let none : c.receive_reply-answer.result ≡ Err fault.Read = rw c.if-is_answered.false at c.is_answered.ensures in
     let left = g.P.DatagramPort.left in
     let failures = g.P.DatagramPort.receive_failures in
-    let unread : Answered xid (left c.send.new.self) (left c.receive_reply-answer.new.port) (Err fault.Read) =
-    subst (λ (r : Result Reply ClientFault). Answered xid (left c.send.new.self)
+    let unread : Answered xid most_passed (left c.send.new.self) (left c.receive_reply-answer.new.port)
+    (Err fault.Read) =
+    subst (λ (r : Result Reply ClientFault). Answered xid most_passed (left c.send.new.self)
     (left c.receive_reply-answer.new.port) r) none c.receive_reply-answer.ensures.answered in
     let failed : Counts 1 (failures c.send.new.self) (failures c.receive_reply-answer.new.port) =
     subst (λ (r : Result Reply ClientFault). Counts (read_failures r) (failures c.send.new.self)
     (failures c.receive_reply-answer.new.port)) none c.receive_reply-answer.ensures.read in
     record {
-      passed = unanswered_over xid _ _ _ (inv.passed.0 ++ [])
-          (over_sending xid _ _ _ inv.passed.0 inv.passed.1 c.in-Ok-send.ensures.unreceived) unread;
+      passed = unanswered_over xid (n * most_passed) most_passed ((n + 1) * most_passed) _ _ _ inv.passed.0
+          inv.passed.2 (omega arith) (over_sending xid _ _ _ inv.passed.0 inv.passed.1 c.in-Ok-send.ensures.unreceived)
+          unread;
       sent = sent_again _ _ _ _ n (call (call_view c.args.call.now)) c.deref.result.now inv.sent
           c.in-Ok-send.ensures.sent c.receive_reply-answer.ensures.unsent own;
       unreceived = Counts-trans _ _ _ n 1 (n + 1) refl
@@ -91,7 +93,7 @@ returns-in-Err g c =
       all = λ e. cc;
       none = λ zero. inr refl;
       sent = sent_then _ _ _ (replicate n (call (call_view c.args.call.now))) inv.sent c.in-Err.ensures.sent;
-      answer_is = unsent_at c.args.call.now.xid _ _ inv.passed.0
+      answer_is = unsent_at c.args.call.now.xid (n * most_passed) _ _ inv.passed.0 inv.passed.2
           (over_sending c.args.call.now.xid _ _ _ inv.passed.0 inv.passed.1 c.in-Err.ensures.unreceived);
       unreceived = Counts-trans _ _ _ n 0 n (omega arith) inv.unreceived c.in-Err.ensures.none_failed;
       unsent = Counts-trans _ _ _ 0 1 1 refl inv.unsent c.in-Err.ensures.failed;
@@ -108,7 +110,7 @@ returns g c =
       all = λ e. omega arith;
       none = λ zero. absurd (omega arith);
       sent = inv.sent;
-      answer_is = unread_at c.args.call.now.xid _ _ inv.passed.0 inv.passed.1;
+      answer_is = unread_at c.args.call.now.xid (n * most_passed) _ _ inv.passed.0 inv.passed.2 inv.passed.1;
       unreceived = Counts-trans _ _ _ n 0 (n - 1 + 1) (omega arith) inv.unreceived (Counts-none _);
       unsent = inv.unsent;
     }

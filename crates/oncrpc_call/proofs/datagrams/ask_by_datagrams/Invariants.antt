@@ -1,15 +1,15 @@
-use Rattle.std.proofs.Common.{ℕ, List, replicate}
+use Rattle.std.proofs.Common.{ℕ, ◌*◌, ◌≤◌, List, length, replicate}
 use Rattle.xdr_io.specs.Reported.{Counts}
 use Rattle.rpc_message.specs.Spelling.{call}
 use Rattle.rpc_message.specs.View.{call_view}
 use Rattle.rpc_engine.specs.Ports.{Sends}
-use Rattle.oncrpc_call.specs.Datagrams.{PassesOver}
+use Rattle.oncrpc_call.specs.Datagrams.{PassesOver, most_passed}
 use Rattle.oncrpc_call.proofs.datagrams.ask_by_datagrams.Given as goal
 
 abbrev pub invariant-asking : goal.invariant-asking
 invariant-asking g l = record {
   passed : (ps : List (List ℕ)) × PassesOver l.call.xid (g.P.DatagramPort.left l.fn.port)
-      (g.P.DatagramPort.left l.port) ps;
+      (g.P.DatagramPort.left l.port) ps × (length ps ≤ l._sent * most_passed);
   sent : Sends (g.P.DatagramPort.sent l.fn.port) (g.P.DatagramPort.sent l.port)
       (replicate l._sent (call (call_view l.call)));
   unreceived : Counts l._sent (g.P.DatagramPort.receive_failures l.fn.port)

@@ -17,6 +17,7 @@ returns-in-Ok-print_bytes g c = record {
   device = λ three. absurd (omega (arith, three));
   in_part = λ three. absurd (omega (arith, three));
   wanting = λ four. absurd (omega (arith, four));
+  told = λ three. absurd (omega (arith, three));
   few_reads = c.in-Ok.ensures.reads;
   bounded = c.in-Ok.ensures.moved;
 }

@@ -1,3 +1,5 @@
+use Rattle.std.proofs.Common.{◌∙◌}
+use Rattle.std.proofs.lemmas.Result.{err_from_is_err_and}
 use Rattle.oncrpc_watch.proofs.Answered.{answers_of, is_program}
 use Rattle.oncrpc_watch.proofs.watch.Watch.tell.Goals as goal
 
@@ -10,3 +12,8 @@ returns-clause-told c = λ s h. record {
       c.program_of.ensures.reply c.in_ok-page.ensures;
   tells = rw c.settings-settings.ensures at c.in_ok-page.ensures;
 }
+
+pub returns-in_err-note-clause-unchanged : goal.returns-in_err-note-clause-unchanged
+returns-in_err-note-clause-unchanged c =
+    let p = err_from_is_err_and c.from_residual-in_err-note.result c.from_residual-in_err-note.ensures.1 in
+    rw p.1 (λ s h. (c.in_err-note.ensures.unchanged s.history h.0, c.note.ensures.counts ∙ h.1))
