@@ -47,9 +47,10 @@ values-preserved c =
     let left : places (drop i ids) ≡ k ∷ ks = one_left ids i c.values-test.true in
     let tail : take (length rest - used) (drop used rest) ≡ drop used rest = take_rest rest used in
     let within = step.2 in
+    let made : new ≡ kept t.show (printed ++ (a ++ b)) = step.4
+    ∙ ap (λ (x : List ℕ). x ++ kept t.show (a ++ b)) inv.shown.1 ∙ kept_join t.show printed (a ++ b) in
     record {
-      shown = (printed ++ (a ++ b), step.4 ∙ ap (λ (x : List ℕ). x ++ kept t.show (a ++ b)) inv.shown.1
-          ∙ kept_join t.show printed (a ++ b), λ u h.
+      shown = (printed ++ (a ++ b), made, λ u h.
           let own = subst (λ (x : List ℕ). AreShown t.form K t.limits false ks x u) tail h in
           let more = shown_more t.form K t.limits k ks rest used v step.1 step.2 step.3 first u own in
           let whole = inv.shown.2 (a ++ (b ++ u))
@@ -104,11 +105,9 @@ returns-then-is_empty-clause-told c =
     let size : length rest ≡ 0 = search (rules, arith) in
     let empty : rest ≡ [] = nil_from_length rest size in
     let whole = c.values.invariant.shown.2 []
-    (subst (λ (xs : List ℕ). AreShown t.form K t.limits c.values.first xs rest []) (sym none) (empty, refl)) in (
-      printed,
-      subst (λ (x : List ℕ). AreShown t.form K t.limits true (places ids) c.args.bytes.now x) (append-nil printed) whole,
-      c.values.invariant.shown.1,
-    )
+    (subst (λ (xs : List ℕ). AreShown t.form K t.limits c.values.first xs rest []) (sym none) (empty, refl)) in
+    let all = subst (λ (x : List ℕ). AreShown t.form K t.limits true (places ids) c.args.bytes.now x)
+    (append-nil printed) whole in (printed, all, c.values.invariant.shown.1)
 
 pub returns-else-is_empty-clause-told : goal.returns-else-is_empty-clause-told
 returns-else-is_empty-clause-told c =
