@@ -1,5 +1,5 @@
-"""Rows of 'oncrpc serve' without a count, of clients that take turns: one record of each is answered before the next has
-its turn. One that sends without an end holds up no other, and one that takes none of its replies is idle.
+"""Rows of 'oncrpc serve' without a count, of clients that take turns: one record of each is answered before the next
+has its turn. One that sends without an end holds up no other, and one that takes none of its replies is idle.
 
 A registry that a signal has stopped does nothing until it goes on: what clients did meanwhile is there then, all of it.
 Expected bytes are those of RFC 5531 sections 9 and 11 and of RFC 1833 section 3.
