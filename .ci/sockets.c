@@ -7,6 +7,7 @@
  * that is asked for. Over TCP a free port of it is bound, and over UDP the one that is asked for. FROM=ADDRESS: who
  * connects, or sends a datagram, comes from there. OWN=ADDRESS: the own end of a socket for datagrams that was
  * connected. UNWATCHED=N: the Nth socket that is to be watched is not, since its user has as many watched as may be.
+ * UNACCEPTED=ERROR: the first connection that waits is not accepted at first, for this error, and waits on.
  * The clock stands still, but that a sleep ends at once, and it is so much later then. CLOCK=FILE: its milliseconds are
  * the eight bytes of that file, which others may change; a wait for events looks often. SILENT=1: nothing comes to a
  * socket that is connected, and a read ends at once with the time up for which it would wait.
@@ -17,6 +18,7 @@
 #include <errno.h>
 #include <fcntl.h>
 #include <netdb.h>
+#include <poll.h>
 #include <stdarg.h>
 #include <stdio.h>
 #include <stdlib.h>
@@ -37,7 +39,7 @@ enum { OFTEN = 5 };
 
 extern int accept4(int, struct sockaddr *restrict, socklen_t *restrict, int);
 
-static long waits, watched, own_moment, *moment;
+static long waits, watched, unaccepted, own_moment, *moment;
 
 static void tell(const char *line, ...) {
     const char *file = getenv("ASKED");
@@ -122,7 +124,18 @@ int bind(int it, const struct sockaddr *at, socklen_t length) {
     return OWN(bind)(it, (const struct sockaddr *)&here, sizeof here);
 }
 
+/* Whether a connection waits that is not accepted now, and was not before. */
+static int is_unaccepted(int at) {
+    const char *error = getenv("UNACCEPTED");
+    struct pollfd waiting = {.fd = at, .events = POLLIN};
+    if (!error || unaccepted || poll(&waiting, 1, 0) != 1) return 0;
+    unaccepted = 1;
+    errno = atoi(error);
+    return 1;
+}
+
 int accept4(int at, struct sockaddr *restrict from, socklen_t *restrict length, int how) {
+    if (is_unaccepted(at)) return -1;
     int made = OWN(accept4)(at, from, length, how);
     const char *there = getenv("FROM");
     if (made >= 0 && there && from && from->sa_family == AF_INET)

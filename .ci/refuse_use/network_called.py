@@ -1,18 +1,20 @@
-"""Rows of 'oncrpc serve' of who calls by datagram, and of what is left where a socket cannot be watched.
+"""Rows of 'oncrpc serve' of who calls by datagram, of what is left where a socket cannot be watched, and of connections
+that cannot be accepted at first.
 
 At 0.0.0.0 a datagram has called the address by which the system would answer its sender: this is the own end of a socket
 that was connected to it, for which '.ci/sockets.c' stands. So these rows need no network of their own, as those of
 'afar.py' do. Expected bytes are those of RFC 5531 section 9 and of RFC 1833 sections 2.1 and 3.2.
 """
 import collections
+import errno
 import os
 import socket
 
 from refuse_use.afar import SET_UDP, TOO_WEAK, TRUE, call, success, text
 from refuse_use.called import HOST
-from refuse_use.keeping import is_answered
-from refuse_use.network_running import Network, Running, port_in
-from timing import WAIT
+from refuse_use.keeping import call as call_of_null, is_answered, marked, read, replied
+from refuse_use.network_running import Clock, Network, Running, port_in
+from timing import SOON, WAIT
 
 EVERY, ONE = "0.0.0.0", "10.20.30.255"
 AFAR, OWN = "10.9.8.7", "10.20.30.40"
@@ -77,9 +79,36 @@ def unwatched_row(program, folder, sockets, number):
     return closed and well, (port, closed, well)
 
 
+# What accept(2) may say of a connection that waits, and whether it is tried again at once, or a second later, as where
+# descriptors are wanting.
+UNACCEPTED = [("ECONNABORTED", True), ("EINTR", True), ("EMFILE", False), ("ENOBUFS", False), ("EPROTO", False)]
+
+
+def later_reply(made, clock):
+    """The reply that comes over a connection as seconds go by."""
+    for seconds in range(1, SOON):
+        clock.set(seconds)
+        if said := read(made, 28, 1):
+            return said
+    return b""
+
+
+def unaccepted_row(program, folder, sockets, name, is_at_once):
+    """A connection that cannot be accepted at first is answered: it ends nothing."""
+    network, clock = Network(sockets, folder), Clock(folder)
+    variables = {**network.variables, "UNACCEPTED": str(getattr(errno, name)), "CLOCK": clock.file}
+    with Running(program, folder, ["serve", "--port", "0"], **variables) as it:
+        with socket.create_connection((HOST, port_in(it.lines(1))), WAIT) as made:
+            made.sendall(marked(call_of_null(1)))
+            said = read(made, 28, SOON) if is_at_once else later_reply(made, clock)
+    return said == marked(replied(1)), said
+
+
 def called_rows():
     """What judges a row, and its name and what it judges."""
     for row in CALLED:
         yield called_row, f"serve at {row.bound}, a datagram from {row.sender} and an own end of {row.own}", [row]
     for number in (1, 2, 3, 4):
         yield unwatched_row, f"serve --local, the socket of number {number} cannot be watched", [number]
+    for name, is_at_once in UNACCEPTED:
+        yield unaccepted_row, f"serve, a connection is not accepted at first: {name}", [name, is_at_once]

@@ -1,3 +1,4 @@
 pub mod Denied
+pub mod Ended
 pub mod Records
 pub mod Replies

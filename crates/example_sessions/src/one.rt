@@ -1,8 +1,9 @@
-//! One session: a record cut across pieces, a reply taken in part, and output above the bound (RFC 5531 sections 9 and
-//! 11).
-ghost use Rattle.std.specs.Prelude.{◌≡◌, ◌⊎◌, ◌+◌, ◌≤◌, ℕ, List, [], ◌∷◌, length, drop, None, Ok};
+//! One session: a record cut across pieces, a reply taken in part, output above the bound, and an end behind a fault
+//! (RFC 5531 sections 9 and 11).
+ghost use Rattle.std.specs.Prelude.{◌≡◌, ◌⊎◌, ◌+◌, ◌≤◌, ℕ, List, [], ◌∷◌, length, drop, Some, None, Ok, Err};
 ghost use Rattle.rpc_record.specs.Marked.{normal};
 ghost use Rattle.registry_sessions.specs.Represents.{Holds, IsFull, fault_in, output_of};
+ghost use Rattle.registry_sessions.specs.declared.fault.SessionFault.{SessionFault};
 ghost use Rattle.registry_sessions.specs.declared.fault.Taken.TheVariants as taken;
 
 use registry_answer::{Transport, one_answer};
@@ -85,4 +86,12 @@ pub fn keeps_the_rest_of_a_reply(session: &mut Session, n: usize)
         → output_of session.new ≡ drop (count + n) (normal replies) }
 {
     session.took(n);
+}
+
+/// A session with a fault ends with that fault, and nothing changes.
+pub fn ends_with_its_fault(session: &mut Session) -> Result<(), SessionFault>
+    ensures fault { (f : SessionFault) → fault_in session.old ≡ Some f → result ≡ Err f }
+    ensures same { (f : SessionFault) → fault_in session.old ≡ Some f → session.new ≡ session.old }
+{
+    session.end()
 }

@@ -17,7 +17,7 @@ pub struct Bounds {
     /// How many connections over TCP may be open at a time. The Unix socket has 16 places beside them. Others wait, and
     /// none of them is refused.
     pub connections: usize,
-    /// How long a connection may stay that makes no call and takes nothing of its replies.
+    /// How long a connection may stay that sends no whole record and takes nothing of its replies.
     pub idle: Duration,
     /// SET and UNSET of callers of other hosts are taken.
     pub trusts_remote: bool,

@@ -38,7 +38,7 @@ pub struct Client {
     is_closing: bool,
     /// Why no more is read: what its output holds is written, and then it goes.
     ending: Option<Why>,
-    /// When it made a call last, or took bytes of a reply.
+    /// When a record of it was whole last, or it took bytes of a reply.
     last: Instant,
     records: u64,
     replies: u64,
@@ -103,7 +103,7 @@ impl Client {
         self.made
     }
 
-    /// It made no call and took nothing of its replies for longer than this.
+    /// It sent no whole record and took nothing of its replies for longer than this.
     pub fn is_idle(&self, now: Instant, longest: Duration) -> bool {
         now.duration_since(self.last) > longest
     }

@@ -14,7 +14,7 @@ use std::net::SocketAddr;
 pub enum Why {
     /// Its peer sent no more, between two records.
     Done,
-    /// Its peer made no call and took nothing of its replies for as long as a client may.
+    /// Its peer sent no whole record and took nothing of its replies for as long as a client may.
     Idle,
     /// Its bytes are no stream of records of at most 65536 bytes, or a read, a write or memory failed.
     Fault(RecordFault),

@@ -124,11 +124,12 @@ pub record Took (old new : Session) (n : ℕ) : Type 0 where
   pub reads : (bytes : List ℕ) (rs : List (List ℕ)) → HasRead old bytes rs → HasRead new bytes rs
   pub replies : (replies : List (List ℕ)) (count : ℕ) → Holds old replies count → Holds new replies (count + n)
 
--- What the end of the bytes says of them: they are the records that were answered, or they end inside another. An
--- earlier fault is answered again.
+-- What the end of the bytes says of them: no fault came, and they are the records that were answered; or they end
+-- inside another. An earlier fault is answered again.
 abbrev pub Concludes : Session → Session → Result (Unit {0}) SessionFault → Type 0
 Concludes old new (Ok u) =
-    (new ≡ old) × ((bytes : List ℕ) (rs : List (List ℕ)) → HasRead old bytes rs → IsWhole most_record rs bytes)
+    (new ≡ old) × (old.fault ≡ None)
+    × ((bytes : List ℕ) (rs : List (List ℕ)) → HasRead old bytes rs → IsWhole most_record rs bytes)
 Concludes old new (Err f) =
     IsBroken new f × (origin_of new ≡ origin_of old) × ((g : SessionFault) → IsBroken old g → new ≡ old)
     × ((bytes : List ℕ) (rs : List (List ℕ)) → HasRead old bytes rs
