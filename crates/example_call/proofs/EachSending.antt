@@ -1,6 +1,6 @@
 -- What is passed over after one sending of a call by datagrams.
-use Rattle.std.proofs.Common.{◌≡◌, ◌≢◌, ℕ, ◌+◌, ◌≤◌, ◌<◌, ◌⊎◌, inl, inr, List, [], ◌∷◌, ◌++◌, Some, None, length, replicate}
-use Rattle.std.proofs.Common.{Result, Ok, Err, ap, refl, sym, ◌∙◌, subst, arith, suc, zero}
+use Rattle.std.proofs.Common.{◌≡◌, ◌≢◌, ℕ, ◌+◌, ◌≤◌, ◌<◌, ◌⊎◌, inl, inr, List, [], ◌∷◌, ◌++◌, length, replicate}
+use Rattle.std.proofs.Common.{Some, None, Result, Ok, Err, ap, refl, sym, ◌∙◌, subst, arith, suc, zero}
 use Rattle.std.proofs.lemmas.List.{append-nil}
 use Rattle.std.specs.Prelude.{IfOk}
 use Rattle.std.specs.List.{AllByRecursion}
@@ -131,7 +131,8 @@ not_reached reports xid call before new (Ok reply) ds rest left others many s =
     absurd (brings.1 (other_behind xid (reports new).left ds rest a.passed m others (omega (arith, few, many))
     (subst (λ (l : Reported). Receives l (reports new).left (a.passed ++ m ∷ [])) still got)))
 
-no_reply : (reply : Reply) (f : ClientFault) (answer : Result Reply ClientFault) → answer ≡ Ok reply → answer ≡ Err f → ⊥
+no_reply : (reply : Reply) (f : ClientFault) (answer : Result Reply ClientFault) → answer ≡ Ok reply → answer ≡ Err f
+    → ⊥
 no_reply reply f answer ok e = cc
 
 never_answered : (n : ℕ) (answer : Result Reply ClientFault)

@@ -80,8 +80,8 @@ pub fn counts_for_each_sending<P: DatagramPort>(
     ask_by_datagrams(alloc, port, call, 10)
 }
 
-/// What was not passed over after one sending is not kept for a later one. Where nothing comes before the tenth, and then
-/// one datagram more of other calls than are passed over after each, there is no reply.
+/// What was not passed over after one sending is not kept for a later one. Where nothing comes before the tenth, and
+/// then one datagram more of other calls than are passed over after each, there is no reply.
 pub fn keeps_no_count_for_later<P: DatagramPort>(
     alloc: Global,
     port: &mut P,

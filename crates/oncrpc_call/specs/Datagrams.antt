@@ -64,8 +64,8 @@ abbrev pub unanswered : (times : ℕ) → Result Reply ClientFault → ℕ
 unanswered times (Err (fault.Write written)) = times
 unanswered times answer = times - 1 + read_failures answer
 
--- The call was sent once, and of what was received then, and not before, the answer speaks: at most most_passed datagrams
--- of other calls were passed over for this sending, and as many where there were too many.
+-- The call was sent once, and of what was received then, and not before, the answer speaks. For this sending at most
+-- most_passed datagrams of other calls were passed over, and as many where there were too many.
 pub record Sending {P : Type 0} (reports : P → Reporting) (xid : ℕ) (call : List ℕ) (answer : Result Reply ClientFault)
     (old new : P) : Type 0 where
   pub behind : P
