@@ -1,4 +1,5 @@
 pub mod Addresses
+pub mod EachSending
 pub mod Inputs
 pub mod Numbers
 pub mod Refusals

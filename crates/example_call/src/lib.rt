@@ -15,7 +15,9 @@ mod replies;
 
 pub use arguments::{counts_what_follows, refuses_the_only_argument};
 pub use asking::{asks_for_a_square, tells_the_name_first};
-pub use datagrams::{answers_to_no_datagram, sends_the_call};
+pub use datagrams::{
+    answers_to_no_datagram, counts_for_each_sending, keeps_no_count_for_later, sends_the_call,
+};
 pub use failures::says_that_memory_was_refused;
 pub use ports::{
     asks_over_ipv6, tells_the_port_as_a_number, tells_the_port_over_ipv4, tells_the_port_over_ipv6,

@@ -1,6 +1,7 @@
 pub mod Alone
 pub mod Behind
 pub mod Dots
+pub mod EachSending
 pub mod Ending
 pub mod Judged
 pub mod OneLine

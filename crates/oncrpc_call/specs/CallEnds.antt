@@ -99,8 +99,7 @@ pub record CallEnds {I W O F : Type 0} (asked : Asked) (line : Line I W O) (stre
 pub record DatagramCallEnds {P O F : Type 0} (asked : Asked) (times : ℕ) (desk : Desk P O) (stream : Stream F)
     (port port' : P) (output output' : O) (faults faults' : F) (status : ℕ) : Type 0 where
   pub answer : Result Reply ClientFault
-  pub asks : AsksByDatagrams asked.call.xid (call (call_view asked.call)) times (desk.reports port)
-      (desk.reports port') answer
+  pub asks : AsksByDatagrams desk.reports asked.call.xid (call (call_view asked.call)) times port port' answer
   pub ends : AnswerEnds (wanted_of asked) answer desk.taken desk.lost stream output output' faults faults' status
 
 -- ---- a step between the code and what its public contract says

@@ -1,6 +1,6 @@
 -- What is sent and received where a call is made by datagrams (RFC 5531 section 9).
-use Rattle.std.specs.Prelude.{◌≡◌, ◌≢◌, ◌⊎◌, ℕ, ◌+◌, ◌*◌, ◌-◌, ◌≤◌, List, [], ◌∷◌, ◌++◌, length, replicate, Option}
-use Rattle.std.specs.Prelude.{Result, Err}
+use Rattle.std.specs.Prelude.{◌≡◌, ◌≢◌, ◌⊎◌, ℕ, zero, suc, ◌+◌, ◌*◌, ◌-◌, ◌≤◌, List, [], ◌∷◌, ◌++◌, length, replicate}
+use Rattle.std.specs.Prelude.{Option, Result, Err}
 use Rattle.std.specs.List.{AllByRecursion}
 use Rattle.xdr_io.specs.Reported.{Counts}
 use Rattle.xdr_units.specs.Numbers.{word, IsWord}
@@ -64,15 +64,53 @@ abbrev pub unanswered : (times : ℕ) → Result Reply ClientFault → ℕ
 unanswered times (Err (fault.Write written)) = times
 unanswered times answer = times - 1 + read_failures answer
 
+-- The call was sent once, and of what was received then, and not before, the answer speaks. For this sending at most
+-- most_passed datagrams of other calls were passed over, and as many where there were too many.
+pub record Sending {P : Type 0} (reports : P → Reporting) (xid : ℕ) (call : List ℕ) (answer : Result Reply ClientFault)
+    (old new : P) : Type 0 where
+  pub behind : P
+  pub sent : Sends (reports old).sent (reports behind).sent (call ∷ [])
+  pub none_received : Receives (reports old).left (reports behind).left []
+  pub none_sent : Sends (reports behind).sent (reports new).sent []
+  pub answered : Answered xid most_passed (reports behind).left (reports new).left answer
+  pub failed : Counts (read_failures answer) (reports old).unreceived (reports new).unreceived
+  pub none_failed : Counts 0 (reports old).unsent (reports new).unsent
+
+-- so many sendings one after another, and after each a receive failed
+abbrev pub Unanswered : {P : Type 0} → (reports : P → Reporting) → (xid : ℕ) → (call : List ℕ) → (count : ℕ)
+    → (old new : P) → Type 0
+Unanswered reports xid call zero old new = new ≡ old
+Unanswered {P} reports xid call (suc n) old new =
+    (mid : P) × Unanswered reports xid call n old mid × Sending reports xid call (Err fault.Read) mid new
+
+-- Nothing was sent and nothing received: memory was refused before the first sending, or the next could not be made.
+pub record NotSent {P : Type 0} (reports : P → Reporting) (earlier : ℕ) (answer : Result Reply ClientFault)
+    (old new : P) : Type 0 where
+  pub why : ((earlier ≡ 0) × (answer ≡ Err fault.NoMemory)) ⊎ (answer ≡ Err (fault.Write 0))
+  pub sent : Sends (reports old).sent (reports new).sent []
+  pub received : Receives (reports old).left (reports new).left []
+
+-- So many sendings, by what the port told between them: those that no reply answered, and then the last, of which the
+-- answer speaks, or none.
+pub record Sendings {P : Type 0} (reports : P → Reporting) (xid : ℕ) (call : List ℕ) (times : ℕ) (old new : P)
+    (answer : Result Reply ClientFault) : Type 0 where
+  pub earlier : ℕ
+  pub before : P
+  pub unanswered : Unanswered reports xid call earlier old before
+  pub last : ((times ≡ earlier + 1) × Sending reports xid call answer before new)
+      ⊎ ((times ≡ earlier) × NotSent reports earlier answer before new)
+
 -- The call was sent, so many times at most, and this is the answer. Where no receive brought a reply it was sent as
--- many times as it may be, and it was not sent at all only where memory was refused or the first send failed.
-pub record AsksByDatagrams (xid : ℕ) (call : List ℕ) (most : ℕ) (old new : Reporting)
+-- many times as it may be, and it was not sent at all only where memory was refused or the first send failed. What was
+-- passed over is told of all sendings together, and of each.
+pub record AsksByDatagrams {P : Type 0} (reports : P → Reporting) (xid : ℕ) (call : List ℕ) (most : ℕ) (old new : P)
     (answer : Result Reply ClientFault) : Type 0 where
   pub times : ℕ
   pub few : times ≤ most
   pub all : answer ≡ Err fault.Read → times ≡ most
   pub none : times ≡ 0 → (answer ≡ Err fault.NoMemory) ⊎ (answer ≡ Err (fault.Write 0))
-  pub sent : Sends old.sent new.sent (replicate times call)
-  pub answer_is : Answered xid (times * most_passed) old.left new.left answer
-  pub unreceived : Counts (unanswered times answer) old.unreceived new.unreceived
-  pub unsent : Counts (write_failures answer) old.unsent new.unsent
+  pub sent : Sends (reports old).sent (reports new).sent (replicate times call)
+  pub answer_is : Answered xid (times * most_passed) (reports old).left (reports new).left answer
+  pub each : Sendings reports xid call times old new answer
+  pub unreceived : Counts (unanswered times answer) (reports old).unreceived (reports new).unreceived
+  pub unsent : Counts (write_failures answer) (reports old).unsent (reports new).unsent

@@ -22,7 +22,8 @@ pub const MOST_PASSED: u32 = 1048576;
 /// `Write`, of 0 bytes, where a send failed. For each sending at most 1048576 datagrams of other calls are passed over,
 /// and `TooManyReads` comes after as many. `WrongXid` and `Record` do not come.
 ///
-/// Credential and verifier have at most 400 bytes each, and the call at most 65507, the most of a datagram over IPv4.
+/// Credential and verifier have at most 400 bytes each. A call of more than 65507 bytes, the most of a datagram over
+/// IPv4, is for the port to refuse: then a send fails.
 pub fn ask_by_datagrams<P: DatagramPort>(
     alloc: Global,
     port: &mut P,
@@ -32,9 +33,8 @@ pub fn ask_by_datagrams<P: DatagramPort>(
     requires cred { length call.now.cred.body.items ≤ 400 }
     requires verf { length call.now.verf.body.items ≤ 400 }
     requires some { 1 ≤ times }
-    ensures { AsksByDatagrams call.now.xid (call_bytes (call_view call.now)) times
-        (report_of P.left P.sent P.receive_failures P.send_failures port.old)
-        (report_of P.left P.sent P.receive_failures P.send_failures port.new) result }
+    ensures { AsksByDatagrams (report_of P.left P.sent P.receive_failures P.send_failures)
+        call.now.xid (call_bytes (call_view call.now)) times port.old port.new result }
 {
     let Ok(bytes) = write_call(alloc, call) else {
         return Err(ClientFault::NoMemory);

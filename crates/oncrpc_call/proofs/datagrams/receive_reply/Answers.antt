@@ -1,5 +1,5 @@
 -- Datagrams of other calls are passed over.
-use Rattle.std.proofs.Common.{◌≡◌, ℕ, List, [], ◌∷◌, ◌++◌, take, refl, sym, arith}
+use Rattle.std.proofs.Common.{ℕ, List, [], ◌∷◌, ◌++◌, take, refl, sym, arith}
 use Rattle.std.proofs.Common.{length-append}
 use Rattle.xdr_io.proofs.Chained.{Counts-trans}
 use Rattle.rpc_engine.specs.Exchanged.{read_failures}
