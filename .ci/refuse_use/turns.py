@@ -18,8 +18,8 @@ from refuse_use.local import at_path, second_line
 from telling import tell
 from timing import SOON, wait_until
 
-# Two rows, and what sets one and asks for it.
-ONE, OTHER = (0x20000000, 1, 6, 2049), (0x20000000, 2, 6, 2050)
+# Rows of two programs, and what sets one and asks for it.
+ONE, OTHER = (0x20000000, 1, 6, 2049), (0x20000001, 1, 6, 2050)
 # Records that are no calls, which have no reply.
 SILENT = marked(b"") * 16384
 
