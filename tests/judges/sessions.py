@@ -415,9 +415,6 @@ def session_memory_cases(heap):
     # All is given back but for what a table and its sessions keep; and at the end of each connection that too.
     drained = [f"write:{number}:1000000" for number in range(64)]
     yield serving(64, 1000, opened + asked + drained), lambda told: told.counts[0] <= 64 * (2 * 8192 + 2048)
-    # So is the memory of far more replies than are kept between two records, while their connection stays.
-    many = ["open", *[f"take:0:{marked(DUMP).hex()}"] * 800, "write:0:1000000"]
-    yield serving(1, 1 << 20, many), lambda told: told.counts[0] <= 2 * 8192 + 2048
     closed = [f"close:{number}" for number in range(64)]
     empty = run([serving(64, 1000, opened + closed)], LD_PRELOAD=heap)[0].counts
     yield serving(64, 1000, opened + asked + brought + closed), lambda told: told.counts == empty
