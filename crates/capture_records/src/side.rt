@@ -1,6 +1,10 @@
 //! One direction of a connection over TCP.
 //!
 //! - `records`: finds and takes the records in its bytes. `holes`: goes on behind what is missing.
+ghost use Rattle.std.specs.Prelude.{◌≡◌, true};
+ghost use Rattle.capture_packets.specs.View.{segment_view};
+ghost use Rattle.capture_records.specs.declared.side.Next.TheVariants.{First};
+
 mod holes;
 mod records;
 
@@ -60,7 +64,9 @@ pub struct Side {
 }
 
 // Where the first record is, where a direction begins with this segment.
-fn first_place(segment: Segment<'_>) -> Next {
+fn first_place(segment: Segment<'_>) -> Next
+    ensures { (segment_view segment.entry).flags.syn ≡ true → result ≡ First }
+{
     if segment.flags.syn {
         Next::First
     } else {
@@ -70,11 +76,15 @@ fn first_place(segment: Segment<'_>) -> Next {
 
 impl Side {
     ghost use Rattle.std.specs.Prelude.{◌≡◌, [], None, OnOk, IfOk, true};
-    ghost use Rattle.capture_records.specs.Follows.{Comes, Drops, GivesUp, Has, Keeps, Steps, untaken_of};
+    ghost use Rattle.capture_packets.specs.View.{segment_view};
+    ghost use Rattle.capture_records.specs.Carried.{first_of};
+    ghost use Rattle.capture_records.specs.Exact.{HasTold, IsFresh, IsReading, KeepsTold, StepsTold, TakesAll};
+    ghost use Rattle.capture_records.specs.Follows.{Comes, Drops, GivesUp, Has, Keeps, KeepsNotes, Steps, untaken_of};
 
     /// Before the first segment.
     pub fn new(alloc: Global) -> Side
-        ensures { Has result [] }
+        ensures has { Has result [] }
+        ensures fresh { IsFresh result }
     {
         Side {
             alloc,
@@ -114,7 +124,12 @@ impl Side {
 
     /// Begins with this segment, where nothing has begun. Where its beginning was seen the first record stands there.
     pub fn begin(&mut self, segment: Segment<'_>)
-        ensures { Keeps self.old self.new }
+        ensures keeps { Keeps self.old self.new }
+        // With a SYN it is heard from its first byte on.
+        ensures told { IsFresh self.old → (segment_view segment.entry).flags.syn ≡ true
+            → HasTold self.new (first_of (segment_view segment.entry)) [] [] }
+        // One that has begun stays as it is.
+        ensures begun { KeepsTold self.old self.new }
     {
         if !self.is_begun_by(segment) {
             return;
@@ -129,7 +144,9 @@ impl Side {
 
     // Whether it begins with this segment: nothing has begun, and the segment has a byte or a SYN.
     fn is_begun_by(&self, segment: Segment<'_>) -> bool
-        ensures { result ≡ true → self.now.direction ≡ None }
+        ensures none { result ≡ true → self.now.direction ≡ None }
+        ensures begins { self.now.direction ≡ None → (segment_view segment.entry).flags.syn ≡ true
+            → result ≡ true }
     {
         match &self.direction {
             Some(_) => false,
@@ -139,7 +156,9 @@ impl Side {
 
     /// Notes a segment: the number and the time of its packet, and where its bytes end.
     pub fn note(&mut self, segment: Segment<'_>, packet: (u64, u64))
-        ensures { Keeps self.old self.new }
+        ensures keeps { Keeps self.old self.new }
+        ensures told { KeepsTold self.old self.new }
+        ensures fresh { IsFresh self.old → IsFresh self.new }
     {
         self.last = packet;
         if segment.flags.reset || self.is_whole {
@@ -160,7 +179,9 @@ impl Side {
     /// Takes bytes of a segment that begin with this sequence number. None: all were taken. Else too many are held
     /// behind a hole, and the first so many were taken.
     pub fn take(&mut self, sequence: u32, bytes: &[u8]) -> Result<Option<usize>, AllocError>
-        ensures { OnOk result (Comes self.old self.new sequence bytes.now) }
+        ensures comes { OnOk result (Comes self.old self.new sequence bytes.now) }
+        // Where all were taken, all that is due waits to be told.
+        ensures told { IfOk result (λ taken. taken ≡ None → TakesAll self.old self.new sequence bytes.now) }
     {
         self.drop_taken()?;
         let Some(direction) = &mut self.direction else {
@@ -195,6 +216,9 @@ impl Side {
     fn give_up(&mut self) -> Option<(Told, u64)>
         ensures gives { GivesUp self.old self.new }
         ensures keeps { Keeps self.old self.new }
+        ensures reading { IsReading self.new.reader [] }
+        ensures notes { KeepsNotes self.old self.new }
+        ensures passed { self.new.passed ≡ 0 }
     {
         let left = self.passed.saturating_add(self.untaken().len() as u64);
         let (told, count) = match self.next {
@@ -228,7 +252,10 @@ impl Side {
     /// The next that comes of it, where it is known to be RPC or not. A record is put into the buffer.
     #[tactic(auto, using(crate::proofs::Reading::coming))]
     pub fn next(&mut self, known: bool, buffer: &mut Vec<u8>) -> Result<Step, AllocError>
-        ensures { IfOk result (λ step. Steps self.old self.new step buffer.new.items) }
+        ensures steps { IfOk result (λ step. Steps self.old self.new step buffer.new.items) }
+        // Of one that is heard from its first byte on, and known to be RPC: each record is told once, in its order, and
+        // where nothing comes for now, all are that are whole up to the first hole.
+        ensures told { IfOk result (λ step. known ≡ true → StepsTold self.old self.new step buffer.new.items) }
     {
         if let Some((told, count)) = self.broken {
             self.broken = None;
@@ -268,7 +295,8 @@ impl Side {
     /// Lets all that it holds go, and says what is to be said of bytes that no record was made of. The next record has
     /// to be found.
     pub fn let_go(&mut self) -> Option<(Told, u64)>
-        ensures { Has self.new [] }
+        ensures has { Has self.new [] }
+        ensures fresh { self.old.broken ≡ None → self.old.missing ≡ 0 → IsFresh self.new }
     {
         self.direction = None;
         self.give_up()

@@ -9,16 +9,19 @@ use rpc_record::{RecordFault, RecordReader, RecordStep};
 use std::alloc::AllocError;
 
 impl Side {
-    ghost use Rattle.std.specs.Prelude.{◌≡◌, IfOk, true};
-    ghost use Rattle.capture_records.specs.Follows.{BeginsAnew, Keeps, Passes, Steps};
+    ghost use Rattle.std.specs.Prelude.{◌≡◌, [], IfOk, true};
+    ghost use Rattle.capture_records.specs.Exact.{IsReading, IsSynced, KeepsTold, StepsTold};
+    ghost use Rattle.capture_records.specs.Follows.{Advances, BeginsAnew, Keeps, KeepsRest, Passes, Steps};
     ghost use Rattle.capture_records.specs.declared.side.Next.TheVariants.{First, Here};
-    ghost use Rattle.capture_records.specs.declared.step.Step.TheVariants.{Record};
+    ghost use Rattle.capture_records.specs.declared.step.Step.TheVariants.{Record, Waits};
 
     // Finds the next record. False: more bytes are wanted for that.
     #[tactic(auto, using(crate::proofs::Reading::not_here))]
     pub(super) fn finds(&mut self, known: bool) -> bool
         ensures keeps { Keeps self.old self.new }
         ensures here { result ≡ true → self.new.next ≡ Here }
+        ensures told { known ≡ true → KeepsTold self.old self.new }
+        ensures synced { known ≡ true → IsSynced self.old.next → result ≡ true }
     {
         match self.next {
             Next::Here => true,
@@ -34,6 +37,8 @@ impl Side {
         requires { self.old.next ≡ First }
         ensures keeps { Keeps self.old self.new }
         ensures here { result ≡ true → self.new.next ≡ Here }
+        ensures told { known ≡ true → KeepsTold self.old self.new }
+        ensures found { known ≡ true → result ≡ true }
     {
         if known || begins_fragment(self.untaken()) {
             self.next = Next::Here;
@@ -76,7 +81,7 @@ impl Side {
 
     // So many bytes are taken.
     fn advance(&mut self, count: usize)
-        ensures { Passes self.old self.new count }
+        ensures { Advances self.old self.new count }
     {
         self.at = self.at.saturating_add(count).min(self.due.len());
     }
@@ -84,7 +89,8 @@ impl Side {
     // The next record. Behind each the reader begins anew, so that it keeps no memory.
     pub(super) fn record(&mut self, buffer: &mut Vec<u8>) -> Result<Step, AllocError>
         requires { self.old.next ≡ Here }
-        ensures { IfOk result (λ step. Steps self.old self.new step buffer.new.items) }
+        ensures steps { IfOk result (λ step. Steps self.old self.new step buffer.new.items) }
+        ensures told { IfOk result (λ step. StepsTold self.old self.new step buffer.new.items) }
     {
         let untaken = rest_of(&self.due, self.at);
         let left = untaken.len();
@@ -108,6 +114,7 @@ impl Side {
     fn refuse(&mut self) -> Step
         ensures anew { BeginsAnew self.old self.new }
         ensures other { result ≡ Record → ⊥ }
+        ensures tells { result ≡ Waits → ⊥ }
     {
         let begun = self.begun;
         self.begin_anew();
@@ -123,6 +130,8 @@ impl Side {
     // No byte of the next record was taken.
     fn begin_anew(&mut self)
         ensures anew { BeginsAnew self.old self.new }
+        ensures reading { IsReading self.new.reader [] }
+        ensures rest { KeepsRest self.old self.new }
     {
         self.reader = RecordReader::start(self.alloc, MOST_RECORD);
         self.begun = 0;
