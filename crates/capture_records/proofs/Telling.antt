@@ -204,73 +204,64 @@ drops_told old new d =
     told_same old new d.direction d.reader d.next (ap (λ (k : ℕ). drop k new.due.items) d.at ∙ d.due) d.broken
     d.missing d.passed
 
-pub takes_after : (old mid new : Side) (sequence : ℕ) (bytes : List ℕ) → Drops old mid
-    → TakesAll mid new sequence bytes → TakesAll old new sequence bytes
-takes_after old mid new sequence bytes drops takes = record {
-  takes = λ first arrivals rs h few. takes.takes first arrivals rs ((drops_told old mid drops).keeps first arrivals rs h)
-      few;
-}
+-- the direction is the one that is there
+direction_same : (d e : Direction) → Some d ≡ Some e → d ≡ e
+direction_same d e same = cc
 
-pub takes_never : (old new : Side) (sequence : ℕ) (bytes : List ℕ) → old.direction ≡ None
-    → TakesAll old new sequence bytes
-takes_never old new sequence bytes none = record {
-  takes = λ first arrivals rs h few.
-      let some : None ≡ Some h.direction = sym none ∙ h.is in
-      absurd cc;
-}
+module _ (old mid new : Side) (drops : Drops old mid) (sequence : ℕ) (bytes : List ℕ) where
+  -- no segment came before
+  pub takes_never : mid.direction ≡ None → TakesAll old new sequence bytes
+  takes_never none = record {
+    takes = λ first arrivals rs h few.
+        let some : None ≡ Some h.direction = sym none ∙ drops.direction ∙ h.is in
+        absurd cc;
+  }
 
--- there are no more places
-pub takes_past : (old new : Side) (d : Direction) (sequence : ℕ) (bytes : List ℕ) → old.direction ≡ Some d
-    → 2 ^ 62 < d.due → TakesAll old new sequence bytes
-takes_past old new d sequence bytes is past = record {
-  takes = λ first arrivals rs h few.
-      let same : Some d ≡ Some h.direction = sym is ∙ h.is in
-      let due : d.due ≡ h.direction.due = due_same d h.direction same in
-      let at = h.stands.due in
-      absurd (omega (arith, past, due, at, few));
-}
-  where
-    due_same : (d e : Direction) → Some d ≡ Some e → d.due ≡ e.due
-    due_same d e same =
-        let k : d ≡ e = cc in
-        ap (λ (x : Direction). x.due) k
+  -- there are no more places
+  pub takes_past : (d : Direction) → mid.direction ≡ Some d → 2 ^ 62 < d.due → TakesAll old new sequence bytes
+  takes_past d is past = record {
+    takes = λ first arrivals rs h few.
+        let one : h.direction ≡ d = direction_same h.direction d (sym h.is ∙ sym drops.direction ∙ is) in
+        let stands : Stands d arrivals 0 h.handed =
+        subst (λ (k : Direction). Stands k arrivals 0 h.handed) one h.stands in
+        let due = stands.due in
+        absurd (omega (arith, past, due, few));
+  }
 
-pub takes_all : (old new : Side) (d d' : Direction) (sequence : ℕ) (bytes : List ℕ) → old.direction ≡ Some d
-    → new.direction ≡ Some d' → new.reader ≡ old.reader → new.next ≡ old.next → new.broken ≡ old.broken
-    → new.missing ≡ old.missing → new.passed ≡ old.passed → old.at ≡ 0 → new.at ≡ 0 → IsOfSame d d'
-    → Takes d d' sequence bytes old.due.items new.due.items → IsAtHole d' → TakesAll old new sequence bytes
-takes_all old new d d' sequence bytes was is b c f g i at at' same t hole = record {
-  takes = λ first arrivals rs h few.
-      let one : h.direction ≡ d = direction_same h.direction d (sym h.is ∙ was) in
-      let stands : Stands d arrivals 0 h.handed = subst (λ (k : Direction). Stands k arrivals 0 h.handed) one h.stands in
-      let due : d.due ≡ length h.handed = omega (arith, stands.due) in
-      let before : old.due.items ≡ untaken_of old = ap (λ (k : ℕ). drop k old.due.items) (sym at) in
-      let after : untaken_of new ≡ new.due.items = ap (λ (k : ℕ). drop k new.due.items) at' in
-      let more : untaken_of new ≡ untaken_of old ++ t.handed =
-      after ∙ t.appended ∙ ap (λ (k : List ℕ). k ++ t.handed) before in
-      record {
-        direction = d';
-        handed = h.handed ++ t.handed;
-        whole = h.whole;
-        begun = h.begun;
-        is = is;
-        first_is = same.first ∙ sym (ap (λ (k : Direction). k.first) one) ∙ h.first_is;
-        stands = subst (λ (n : ℕ). Stands d' (arrivals ++ arrival_of n sequence bytes ∷ []) 0 (h.handed ++ t.handed)) due
-            (t.stands arrivals 0 h.handed stands);
-        hole = hole;
-        joined = ap (λ (k : List ℕ). k ++ t.handed) h.joined
-            ∙ append_assoc h.whole (h.begun ++ untaken_of old) t.handed
-            ∙ ap (λ (k : List ℕ). h.whole ++ k) (append_assoc h.begun (untaken_of old) t.handed)
-            ∙ ap (λ (k : List ℕ). h.whole ++ (h.begun ++ k)) (sym more);
-        records = h.records;
-        reading = subst (λ (k : RecordReader). IsReading k h.begun) (sym b) h.reading;
-        synced = subst IsSynced (sym c) h.synced;
-        quiet = quiet_same old new f g i h.quiet;
-      };
-}
-  where
-    direction_same : (d e : Direction) → Some d ≡ Some e → d ≡ e
-    direction_same d e same = cc
+  -- all came
+  pub takes_all : (d d' : Direction) → mid.direction ≡ Some d → new.direction ≡ Some d' → new.reader ≡ mid.reader
+      → new.next ≡ mid.next → new.broken ≡ mid.broken → new.missing ≡ mid.missing → new.passed ≡ mid.passed
+      → new.at ≡ 0 → IsOfSame d d' → Takes d d' sequence bytes mid.due.items new.due.items → IsAtHole d'
+      → TakesAll old new sequence bytes
+  takes_all d d' was is b c f g i at same t hole = record {
+    takes = λ first arrivals rs h few.
+        let one : h.direction ≡ d = direction_same h.direction d (sym h.is ∙ sym drops.direction ∙ was) in
+        let stands : Stands d arrivals 0 h.handed =
+        subst (λ (k : Direction). Stands k arrivals 0 h.handed) one h.stands in
+        let due : d.due ≡ length h.handed = omega (arith, stands.due) in
+        let more : untaken_of new ≡ untaken_of old ++ t.handed =
+        ap (λ (k : ℕ). drop k new.due.items) at ∙ t.appended ∙ ap (λ (k : List ℕ). k ++ t.handed) drops.due in
+        record {
+          direction = d';
+          handed = h.handed ++ t.handed;
+          whole = h.whole;
+          begun = h.begun;
+          is = is;
+          first_is = same.first ∙ sym (ap (λ (k : Direction). k.first) one) ∙ h.first_is;
+          stands = subst
+              (λ (n : ℕ). Stands d' (arrivals ++ arrival_of n sequence bytes ∷ []) 0 (h.handed ++ t.handed)) due
+              (t.stands arrivals 0 h.handed stands);
+          hole = hole;
+          joined = ap (λ (k : List ℕ). k ++ t.handed) h.joined
+              ∙ append_assoc h.whole (h.begun ++ untaken_of old) t.handed
+              ∙ ap (λ (k : List ℕ). h.whole ++ k) (append_assoc h.begun (untaken_of old) t.handed)
+              ∙ ap (λ (k : List ℕ). h.whole ++ (h.begun ++ k)) (sym more);
+          records = h.records;
+          reading = subst (λ (k : RecordReader). IsReading k h.begun) (sym (b ∙ drops.reader)) h.reading;
+          synced = subst IsSynced (sym (c ∙ drops.next)) h.synced;
+          quiet = quiet_same old new (f ∙ drops.broken) (g ∙ drops.missing) (i ∙ drops.passed) h.quiet;
+        };
+  }
 
 -- ---- what comes
 

@@ -1,12 +1,12 @@
 use Rattle.capture_records.proofs.Reading.{comes_after, drops_keeps, side_took}
-use Rattle.capture_records.proofs.Telling.{takes_after, takes_all, takes_never, takes_past}
+use Rattle.capture_records.proofs.Telling.{takes_all, takes_never, takes_past}
 use Rattle.std.proofs.Common.{refl}
 use Rattle.capture_records.proofs.side.Side.take.Goals as goal
 
 pub returns-in_default-clause-told : goal.returns-in_default-clause-told
 returns-in_default-clause-told c = λ none.
-    takes_after c.args.self.now c.drop_taken.new.self _ c.args.sequence c.args.bytes.now c.in_ok-drop_taken.ensures
-    (takes_never c.drop_taken.new.self _ c.args.sequence c.args.bytes.now c.in_default.is)
+    takes_never c.args.self.now c.drop_taken.new.self _ c.in_ok-drop_taken.ensures c.args.sequence c.args.bytes.now
+    c.in_default.is
 
 pub returns-in-Ok-clause-comes : goal.returns-in-Ok-clause-comes
 returns-in-Ok-clause-comes c =
@@ -18,11 +18,10 @@ returns-in-Ok-clause-comes c =
 
 pub returns-in-Ok-clause-told : goal.returns-in-Ok-clause-told
 returns-in-Ok-clause-told c = λ none.
-    let mid = c.drop_taken.new.self in
     let drops = c.in_ok-drop_taken.ensures in
-    takes_after c.args.self.now mid _ c.args.sequence c.args.bytes.now drops
-    (takes_all mid _ c.in-Some.direction c.take.new.self c.args.sequence c.args.bytes.now c.in-Some.is refl refl refl
-    refl refl refl drops.at drops.at c.take.ensures.same c.in-Ok.ensures.takes c.in-Ok.ensures.whole)
+    takes_all c.args.self.now c.drop_taken.new.self _ drops c.args.sequence c.args.bytes.now c.in-Some.direction
+    c.take.new.self c.in-Some.is refl refl refl refl refl refl drops.at c.take.ensures.same c.in-Ok.ensures.takes
+    c.in-Ok.ensures.whole
 
 pub returns-in-Err-PlacesEnd-clause-comes : goal.returns-in-Err-PlacesEnd-clause-comes
 returns-in-Err-PlacesEnd-clause-comes c =
@@ -34,10 +33,8 @@ returns-in-Err-PlacesEnd-clause-comes c =
 
 pub returns-in-Err-PlacesEnd-clause-told : goal.returns-in-Err-PlacesEnd-clause-told
 returns-in-Err-PlacesEnd-clause-told c = λ none.
-    let mid = c.drop_taken.new.self in
-    takes_after c.args.self.now mid _ c.args.sequence c.args.bytes.now c.in_ok-drop_taken.ensures
-    (takes_past mid _ c.in-Some.direction c.args.sequence c.args.bytes.now c.in-Some.is
-    c.in-Err-PlacesEnd.ensures.refused.0)
+    takes_past c.args.self.now c.drop_taken.new.self _ c.in_ok-drop_taken.ensures c.args.sequence c.args.bytes.now
+    c.in-Some.direction c.in-Some.is c.in-Err-PlacesEnd.ensures.refused.0
 
 pub returns-in-Err-Full-clause-comes : goal.returns-in-Err-Full-clause-comes
 returns-in-Err-Full-clause-comes c =
