@@ -9,13 +9,14 @@ use Rattle.std.specs.Io.KnownBytes.{Appends}
 use Rattle.xdr_io.proofs.Chained.{Appends-none, Appends-trans}
 use Rattle.oncrpc_messages.specs.Closing.{closed}
 use Rattle.oncrpc_messages.specs.declared.asked.Asked.{Asked}
+use Rattle.oncrpc_messages.specs.declared.page.Found.{Found}
 use Rattle.oncrpc_messages.specs.declared.page.Page.{Page}
 use Rattle.oncrpc_watch.specs.Counted.{refused}
 use Rattle.oncrpc_watch.specs.Events.{stream_line}
 use Rattle.oncrpc_watch.specs.Lines.{counts_line}
 use Rattle.oncrpc_watch.specs.MessagesEnd.{status_of}
 use Rattle.oncrpc_watch.specs.Represents.{IsAt, Recalls}
-use Rattle.oncrpc_watch.specs.Run.{State, TellsRecord, heard, nothing}
+use Rattle.oncrpc_watch.specs.Run.{FindsRecord, State, TellsRecord, heard, heard_of, nothing}
 use Rattle.oncrpc_watch.specs.Terms.{Terms, terms_of}
 use Rattle.oncrpc_capture.specs.declared.printing.Printing.{Printing}
 use Rattle.oncrpc_capture.specs.declared.seen.Seen.{Seen}
@@ -187,6 +188,28 @@ too_long_said p q seen line a b e terms stats table counts is w = refused_alone 
     table counts (λ s. subst (λ (x : Bool). TellsEntry (terms_of p.watch.terms) x s (TooLong seen) (refused_too s) line)
     (sym e) (refl, is)) w
 
+-- a message that was counted
+pub message_counted : (p q : Printing) (seen : Seen) (way : ℕ) (bytes : List ℕ) (found : Found) (asked : Option Asked)
+    → ((s : State) → IsAt p.watch s → FindsRecord (terms_of p.watch.terms) s.history way bytes found asked)
+    → ((s : State) → IsAt p.watch s → IsAt q.watch (heard_of s way seen.time found asked))
+    → q.watch.terms ≡ p.watch.terms → is_some q.stats ≡ is_some p.stats → (a : Option (List ℕ))
+    → is_some p.stats ≡ true → Prints p q (Message seen way bytes ∷ []) a a
+message_counted p q seen way bytes found asked finds is_heard terms stats a e = record {
+  terms = terms;
+  stats = stats;
+  prints = λ s h.
+      let new = heard_of s way seen.time found asked in
+      record {
+        state = new;
+        text = [];
+        tells = tells_one (terms_of p.watch.terms) (is_some p.stats) s (Message seen way bytes) new []
+            (subst (λ (x : Bool). TellsEntry (terms_of p.watch.terms) x s (Message seen way bytes) new []) (sym e)
+            (record { found = found; asked = asked; finds = finds s h; new_is = refl }, refl));
+        is_at = is_heard s h;
+        written = Appends-none a;
+      };
+}
+
 -- a message that was told
 module _ (p q : Printing) (seen : Seen) (way : ℕ) (bytes : List ℕ) (page : Page) (asked : Option Asked)
     (told : (s : State) → IsAt p.watch s
@@ -199,22 +222,6 @@ module _ (p q : Printing) (seen : Seen) (way : ℕ) (bytes : List ℕ) (page : P
   message_told : (s : State) → IsAt p.watch s
       → TellsMessage (terms_of p.watch.terms) s way seen.time bytes (heard s way seen.time page asked) line
   message_told s h = record { page = page; asked = asked; told = told s h; new_is = refl; text_is = refl }
-
-  pub message_counted : (a : Option (List ℕ)) → is_some p.stats ≡ true
-      → Prints p q (Message seen way bytes ∷ []) a a
-  message_counted a e = record {
-    terms = terms;
-    stats = stats;
-    prints = λ s h. record {
-      state = heard s way seen.time page asked;
-      text = [];
-      tells = tells_one (terms_of p.watch.terms) (is_some p.stats) s (Message seen way bytes) _ []
-          (subst (λ (x : Bool). TellsEntry (terms_of p.watch.terms) x s (Message seen way bytes)
-          (heard s way seen.time page asked) []) (sym e) (line, message_told s h, refl));
-      is_at = is_heard s h;
-      written = Appends-none a;
-    };
-  }
 
   pub message_said : (text : List ℕ) (a b : Option (List ℕ)) → is_some p.stats ≡ false
       → text ≡ behind p.watch.terms.form (front_text p.watch.terms.form seen) line → Appends a b text

@@ -2,12 +2,13 @@
 use Rattle.std.specs.Prelude.{◌≡◌, ℕ, Bool, true, false, List, [], ◌∷◌, ◌++◌, codes, Option}
 use Rattle.oncrpc_messages.specs.Closing.{closed}
 use Rattle.oncrpc_messages.specs.declared.asked.Asked.{Asked}
+use Rattle.oncrpc_messages.specs.declared.page.Found.{Found}
 use Rattle.oncrpc_messages.specs.declared.page.Page.{Page}
 use Rattle.oncrpc_messages.specs.declared.refusal.Verdict.{Verdict}
 use Rattle.oncrpc_messages.specs.declared.refusal.Verdict.TheVariants as verdict
 use Rattle.oncrpc_watch.specs.Counted.{refused}
 use Rattle.oncrpc_watch.specs.Events.{stream_line}
-use Rattle.oncrpc_watch.specs.Run.{State, TellsRecord, heard}
+use Rattle.oncrpc_watch.specs.Run.{FindsRecord, State, TellsRecord, heard, heard_of}
 use Rattle.oncrpc_watch.specs.Terms.{Terms}
 use Rattle.oncrpc_capture.specs.declared.seen.Seen.{Seen}
 use Rattle.oncrpc_capture.specs.Texts.{behind, front_text, note_text, unread_text}
@@ -35,6 +36,13 @@ pub record TellsMessage (t : Terms) (s : State) (way time : ℕ) (bytes : List �
   pub new_is : new ≡ heard s way time page asked
   pub text_is : text ≡ closed t.form page.text.items page.verdict (place_of page.verdict)
 
+-- What a message is found to be by what was heard before it, and the state behind it: that of `messages`.
+pub record CountsMessage (t : Terms) (s : State) (way time : ℕ) (bytes : List ℕ) (new : State) : Type 0 where
+  pub found : Found
+  pub asked : Option Asked
+  pub finds : FindsRecord t s.history way bytes found asked
+  pub new_is : new ≡ heard_of s way time found asked
+
 -- something more is refused
 abbrev pub refused_too : State → State
 refused_too s = record { history = s.history; counts = refused s.counts }
@@ -45,8 +53,7 @@ abbrev pub TellsEntry : Terms → (stats : Bool) → State → Entry → State �
 TellsEntry t false s (Message seen way bytes) new text =
     (line : List ℕ) × TellsMessage t s way seen.time bytes new line
     × (text ≡ behind t.form (front_text t.form seen) line)
-TellsEntry t true s (Message seen way bytes) new text =
-    (line : List ℕ) × TellsMessage t s way seen.time bytes new line × (text ≡ [])
+TellsEntry t true s (Message seen way bytes) new text = CountsMessage t s way seen.time bytes new × (text ≡ [])
 TellsEntry t false s (Note seen what count) new text =
     (new ≡ s) × (text ≡ behind t.form (front_text t.form seen) (note_text t.form what count))
 TellsEntry t true s (Note seen what count) new text = (new ≡ s) × (text ≡ [])

@@ -73,13 +73,16 @@ impl<'a> Printing<'a> {
         ensures { OnOk result (Prints self.old self.new (Message seen way bytes.now ∷ []) (O.taken output.old)
             (O.taken output.new)) }
     {
-        let told = self.watch.tell(way, seen.time, bytes)?;
         match &mut self.stats {
             Some(stats) => {
-                stats.count(&told.page, told.asked, seen)?;
+                let judged = self.watch.judge(way, seen.time, bytes)?;
+                stats.count(judged.found, judged.asked, seen)?;
                 Ok(())
             }
-            None => self.put_message(seen, told.page, output),
+            None => {
+                let told = self.watch.tell(way, seen.time, bytes)?;
+                self.put_message(seen, told.page, output)
+            }
         }
     }
 

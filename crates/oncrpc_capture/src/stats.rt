@@ -4,7 +4,7 @@ ghost use Rattle.std.specs.Prelude.{◌<◌, IfSome};
 use crate::seen::Seen;
 use capture_packets::Reason as PacketReason;
 use capture_records::Told;
-use oncrpc_messages::{Asked, Page, Said, Verdict, Why};
+use oncrpc_messages::{Asked, Found, Said, Verdict, Why};
 use std::alloc::{AllocError, Global};
 use std::collections::BTreeMap;
 use xdr_codec::Reason;
@@ -141,17 +141,17 @@ impl Stats {
     /// known where it stood behind a hole.
     pub fn count(
         &mut self,
-        page: &Page,
+        found: Found,
         asked: Option<Asked>,
         seen: Seen,
     ) -> Result<(), AllocError> {
         let mut refused = 0;
-        if let Verdict::Refused(refusal) = page.verdict {
+        if let Verdict::Refused(refusal) = found.verdict {
             refused = 1;
             let place = reason_place(refusal.why);
             self.reasons[place] = self.reasons[place].saturating_add(1);
         }
-        match page.said {
+        match found.said {
             Said::Call { asked, .. } => self.add(target_of(asked), 1, 0, refused),
             Said::Reply { xid } => match asked {
                 Some(asked) => {

@@ -1,3 +1,4 @@
 pub mod Encoded
+pub mod Kept
 pub mod Known
 pub mod Valued

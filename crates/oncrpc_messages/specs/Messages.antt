@@ -10,6 +10,7 @@ use Rattle.rpc_message.specs.Constants.{reply_type}
 use Rattle.rpc_message.specs.Message.{CallView, ReplyView, StatusView, Accepted, Denied, Success}
 use Rattle.rpc_message.specs.Spelling.{CallBytes, ReplyBytes}
 use Rattle.oncrpc_messages.specs.declared.asked.Asked.{Asked}
+use Rattle.oncrpc_messages.specs.declared.page.Found.{Found}
 use Rattle.oncrpc_messages.specs.declared.page.Page as code
 use Rattle.oncrpc_messages.specs.declared.page.Said.{Said}
 use Rattle.oncrpc_messages.specs.declared.page.Said.TheVariants as said
@@ -119,6 +120,10 @@ Tells s asked bytes text v said.Neither = TellsRecord s bytes text v
 
 abbrev pub TellsPage : Settings → Option Asked → (bytes : List ℕ) → code.Page → Type 0
 TellsPage s asked bytes p = Tells s asked bytes p.text.items p.verdict p.said
+
+-- what a message is found to be, by the same: with some text it is what is printed of it
+abbrev pub FindsMessage : Settings → Option Asked → (bytes : List ℕ) → Found → Type 0
+FindsMessage s asked bytes f = (text : List ℕ) × Tells s asked bytes text f.verdict f.said
 
 -- the bytes say that they are a reply with this xid: these are their first two numbers (RFC 5531 section 9)
 abbrev pub SaysReply : (xid : ℕ) → (bytes : List ℕ) → Type 0

@@ -1,18 +1,20 @@
-//! What is printed of arguments and results.
+//! What is printed of arguments and results, where that is wanted.
 ghost use Rattle.std.specs.Prelude.{◌≡◌, ◌+◌, ◌++◌, ◌<◌, ◌^◌, IfOk, IfSome, OnOk, length, option_map, string_bytes};
 ghost use Rattle.xdr_lang.specs.Views.{places};
 ghost use Rattle.oncrpc_messages.specs.Bodies.{TellsBody, nothing_text, unjudged_text, values_key, values_text};
+ghost use Rattle.oncrpc_messages.specs.Private.Kept.{IsKept, kept};
 ghost use Rattle.oncrpc_messages.specs.Private.Told.{AreKinds};
 ghost use Rattle.oncrpc_messages.specs.Settings.{settings_of};
 
 use crate::form::Form;
 use crate::refusal::{Refusal, Verdict};
-use crate::settings::Settings;
+use crate::settings::Reading;
+use crate::show::Show;
 use crate::values::{Terms, Values, values_of};
 use std::alloc::{AllocError, Global};
 use xdr_types::{KindId, NoMemory};
 
-/// What is printed of a part of a message, and what its bytes are found to be.
+/// What is made of what is printed of a part of a message, and what its bytes are found to be.
 #[derive(Drop)]
 pub struct Body {
     pub text: Vec<u8>,
@@ -23,20 +25,21 @@ pub struct Body {
 /// judged by these kinds, which the schema has. Without kinds that is their count.
 pub fn body_of(
     alloc: Global,
-    settings: &Settings<'_>,
+    reading: &Reading<'_, '_>,
     call: bool,
     kinds: Option<&[KindId]>,
     start: usize,
     bytes: &[u8],
 ) -> Result<Body, NoMemory>
-    requires known { IfSome kinds (λ k. AreKinds settings.now.declared.now.schema.kinds (places k.now)) }
+    requires known { IfSome kinds (λ k. AreKinds reading.now.settings.now.declared.now.schema.kinds (places k.now)) }
     requires within { start + length bytes.now < 2 ^ 64 }
-    ensures { IfOk result (λ b. TellsBody (settings_of settings.now) call
-        (option_map (λ k. places k.now) kinds.entry) start bytes.now b.text.items b.verdict) }
+    ensures { IfOk result (λ b. IsKept reading.now.show (λ text. TellsBody (settings_of reading.now.settings.now) call
+        (option_map (λ k. places k.now) kinds.entry) start bytes.now text b.verdict) b.text.items) }
 {
+    let settings = reading.settings;
     let Some(kinds) = kinds else {
         return Ok(Body {
-            text: unjudged_text(alloc, settings.form, bytes.len())?.into_bytes(),
+            text: unjudged_body(alloc, reading, bytes.len())?,
             verdict: Verdict::Unjudged,
         });
     };
@@ -44,19 +47,31 @@ pub fn body_of(
         schema: &settings.declared.schema,
         limits: settings.limits,
         form: settings.form,
+        show: reading.show,
     };
     match values_of(alloc, &terms, kinds, bytes)? {
         Values::Shown(values) => Ok(Body {
-            text: values_text(alloc, settings.form, call, values)?,
+            text: values_body(alloc, reading, call, &values)?,
             verdict: Verdict::Canonical,
         }),
         Values::Refused(refusal) => Ok(Body {
-            text: nothing_text(alloc, settings.form)?,
+            text: nothing_body(alloc, reading)?,
             verdict: Verdict::Refused(Refusal {
                 why: refusal.why,
                 at: start + refusal.at,
             }),
         }),
+    }
+}
+
+/// Nothing more of a message, where that is wanted.
+pub fn nothing_body(alloc: Global, reading: &Reading<'_, '_>) -> Result<Vec<u8>, AllocError>
+    ensures { IfOk result (λ text. text.items
+        ≡ kept reading.now.show (nothing_text reading.now.settings.now.form)) }
+{
+    match reading.show {
+        Show::Text => nothing_text(alloc, reading.settings.form),
+        Show::Nothing => Ok(Vec::new(alloc)),
     }
 }
 
@@ -70,6 +85,21 @@ pub fn nothing_text(alloc: Global, form: Form) -> Result<Vec<u8>, AllocError>
     }
 }
 
+// So many bytes that no declared kind judges, where that is wanted.
+fn unjudged_body(
+    alloc: Global,
+    reading: &Reading<'_, '_>,
+    count: usize,
+) -> Result<Vec<u8>, AllocError>
+    ensures { IfOk result (λ text. text.items
+        ≡ kept reading.now.show (unjudged_text reading.now.settings.now.form count)) }
+{
+    match reading.show {
+        Show::Text => Ok(unjudged_text(alloc, reading.settings.form, count)?.into_bytes()),
+        Show::Nothing => Ok(Vec::new(alloc)),
+    }
+}
+
 // So many bytes that no declared kind judges.
 fn unjudged_text(alloc: Global, form: Form, count: usize) -> Result<String, AllocError>
     ensures { IfOk result (λ text. string_bytes text ≡ unjudged_text form count) }
@@ -80,24 +110,40 @@ fn unjudged_text(alloc: Global, form: Form, count: usize) -> Result<String, Allo
     }
 }
 
+// Values in their place, where that is wanted.
+fn values_body(
+    alloc: Global,
+    reading: &Reading<'_, '_>,
+    call: bool,
+    values: &[u8],
+) -> Result<Vec<u8>, AllocError>
+    ensures { IfOk result (λ text. text.items
+        ≡ kept reading.now.show (values_text reading.now.settings.now.form call values.now)) }
+{
+    match reading.show {
+        Show::Text => values_text(alloc, reading.settings.form, call, values),
+        Show::Nothing => Ok(Vec::new(alloc)),
+    }
+}
+
 // Values in their place.
 fn values_text(
     alloc: Global,
     form: Form,
     call: bool,
-    values: Vec<u8>,
+    values: &[u8],
 ) -> Result<Vec<u8>, AllocError>
-    ensures { IfOk result (λ text. text.items ≡ values_text form call values.items) }
+    ensures { IfOk result (λ text. text.items ≡ values_text form call values.now) }
 {
     let mut text = Vec::new(alloc);
     match form {
         Form::Lines => {
             text.extend_from_slice(b"\n")?;
-            text.extend_from_slice(&values)?;
+            text.extend_from_slice(values)?;
         }
         Form::Json => {
             text.extend_from_slice(values_key(call))?;
-            text.extend_from_slice(&values)?;
+            text.extend_from_slice(values)?;
             text.extend_from_slice(b"]")?;
         }
     }

@@ -2,11 +2,12 @@
 ghost use Rattle.std.specs.Prelude.{◌≡◌, ◌+◌, IfOk, length, option_map};
 ghost use Rattle.rpc_message.specs.View.{lent_view};
 ghost use Rattle.oncrpc_messages.specs.Bodies.{TellsFields};
+ghost use Rattle.oncrpc_messages.specs.Private.Kept.{IsKeptPart};
 ghost use Rattle.oncrpc_messages.specs.Settings.{settings_of};
 
 use crate::form::Form;
 use crate::refusal::Refusal;
-use crate::settings::Settings;
+use crate::settings::Reading;
 use crate::values::{Terms, Values, values_of};
 use rpc_message::{AUTH_SYS, LentAuth};
 use std::alloc::Global;
@@ -16,7 +17,7 @@ use xdr_types::NoMemory;
 /// 8.2 and 9).
 const START: usize = 32;
 
-/// What is printed of a credential, and what is refused of it.
+/// What is made of what is printed of a credential, and what is refused of it.
 #[derive(Drop)]
 pub struct Fields {
     /// The fields of AUTH_SYS as JSON, where its body has them. Of another flavor there are none.
@@ -28,11 +29,12 @@ pub struct Fields {
 /// What is printed of the credential of a call, and what is refused of it (RFC 5531 appendix A).
 pub fn fields_of(
     alloc: Global,
-    settings: &Settings<'_>,
+    reading: &Reading<'_, '_>,
     cred: LentAuth<'_>,
 ) -> Result<Fields, NoMemory>
-    ensures { IfOk result (λ f. TellsFields (settings_of settings.now) 32 (lent_view cred.entry)
-        (option_map (λ t. t.items) f.text) f.refusal) }
+    ensures { IfOk result (λ f. IsKeptPart reading.now.show
+        (λ fields. TellsFields (settings_of reading.now.settings.now) 32 (lent_view cred.entry) fields f.refusal)
+        (option_map (λ t. t.items) f.text)) }
 {
     if cred.flavor != AUTH_SYS {
         return Ok(Fields {
@@ -40,12 +42,14 @@ pub fn fields_of(
             refusal: None,
         });
     }
+    let settings = reading.settings;
     let heads = settings.heads;
     let kinds = [heads.auth_sys];
     let terms = Terms {
         schema: &heads.declared.schema,
         limits: settings.limits,
         form: Form::Json,
+        show: reading.show,
     };
     match values_of(alloc, &terms, &kinds, cred.body)? {
         Values::Shown(text) => Ok(Fields {

@@ -2,7 +2,8 @@
 //! judged by the declared kinds. Every byte that is refused is named with its place.
 //!
 //! - `message`: what is printed of any bytes, over `calls`, `replies` and, of what is neither, `flaws`. `page` is what
-//!   comes out, with what a call `asked`; `settings` is how messages are read, `form` how they are printed.
+//!   comes out, with what a call `asked`; `settings` is how messages are read, `form` how they are printed, and `show`
+//!   whether they are.
 //! - `fronts`: the line over a message. `credential`: the fields of AUTH_SYS. `bodies`: arguments and results.
 //!   `values`: values of kinds, one behind another, each found by `judge`.
 //! - `procedures`: the kinds of a procedure's arguments and result. `heads`: the types by which heads are judged,
@@ -29,6 +30,7 @@ mod procedures;
 mod refusal;
 mod replies;
 mod settings;
+mod show;
 mod values;
 
 pub use asked::Asked;
@@ -37,7 +39,7 @@ pub use form::Form;
 pub use head_text::read_heads;
 pub use heads::Heads;
 pub use laws::canonical_is_encoded;
-pub use message::{call_program, read_message, reply_xid};
-pub use page::{Page, Said};
+pub use message::{call_program, judge_message, read_message, reply_xid};
+pub use page::{Found, Page, Said};
 pub use refusal::{Refusal, Verdict, Why};
 pub use settings::Settings;

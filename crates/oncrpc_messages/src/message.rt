@@ -1,10 +1,13 @@
-//! What is printed of a message.
-ghost use Rattle.std.specs.Prelude.{◌≡◌, ℕ, IfOk, MatchOption, Option};
+//! What is printed of a message, and what it is found to be.
+ghost use Rattle.std.specs.Prelude.{◌≡◌, ℕ, ◌++◌, IfOk, MatchOption, Option};
 ghost use Rattle.rpc_message.specs.Message.{CallView};
 ghost use Rattle.rpc_message.specs.Spelling.{CallBytes, ReplyBytes};
 ghost use Rattle.rpc_message.specs.View.{lent_call_view, reply_view};
 ghost use Rattle.oncrpc_messages.specs.declared.asked.Asked.{Asked};
-ghost use Rattle.oncrpc_messages.specs.Messages.{IsNoMessage, SaysReply, TellsPage};
+ghost use Rattle.oncrpc_messages.specs.Bodies.{nothing_text};
+ghost use Rattle.oncrpc_messages.specs.Lines.{record_front};
+ghost use Rattle.oncrpc_messages.specs.Messages.{FindsMessage, IsNoMessage, SaysReply, TellsPage};
+ghost use Rattle.oncrpc_messages.specs.Private.Kept.{KeepsPage, kept};
 ghost use Rattle.oncrpc_messages.specs.Settings.{settings_of};
 
 use crate::asked::Asked;
@@ -12,12 +15,13 @@ use crate::bodies::nothing_text;
 use crate::calls::call_page;
 use crate::flaws::flaw_of;
 use crate::fronts::{record_front, xid_of};
-use crate::page::{Page, Said};
+use crate::page::{Found, Page, Said};
 use crate::refusal::Verdict;
 use crate::replies::reply_page;
-use crate::settings::Settings;
+use crate::settings::{Reading, Settings};
+use crate::show::Show;
 use rpc_message::{LentCall, LentRead, REPLY, Reply, ReplyFault, read_lent_call, read_reply};
-use std::alloc::Global;
+use std::alloc::{AllocError, Global};
 use xdr_types::NoMemory;
 use xdr_units::first_word;
 
@@ -50,9 +54,46 @@ pub fn read_message(
 ) -> Result<Page, NoMemory>
     ensures { IfOk result (λ p. TellsPage (settings_of settings.now) asked bytes.now p) }
 {
+    let reading = Reading {
+        settings,
+        show: Show::Text,
+    };
+    page_of(alloc, &reading, asked, bytes)
+}
+
+/// What a record of these bytes is found to be: just what `read_message` finds of it, of which no text is made. The
+/// error is an allocation failure.
+pub fn judge_message(
+    alloc: Global,
+    settings: &Settings<'_>,
+    asked: Option<Asked>,
+    bytes: &[u8],
+) -> Result<Found, NoMemory>
+    ensures { IfOk result (λ f. FindsMessage (settings_of settings.now) asked bytes.now f) }
+{
+    let reading = Reading {
+        settings,
+        show: Show::Nothing,
+    };
+    let page = page_of(alloc, &reading, asked, bytes)?;
+    Ok(Found {
+        verdict: page.verdict,
+        said: page.said,
+    })
+}
+
+// What is printed of a record of these bytes, where that is wanted, and what it is found to be.
+fn page_of(
+    alloc: Global,
+    reading: &Reading<'_, '_>,
+    asked: Option<Asked>,
+    bytes: &[u8],
+) -> Result<Page, NoMemory>
+    ensures { IfOk result (λ p. KeepsPage reading.now.show (settings_of reading.now.settings.now) asked bytes.now p) }
+{
     match whole_call(bytes) {
-        Some(call) => page_of_call(alloc, settings, &call, bytes),
-        None => page_of_other(alloc, settings, asked, bytes),
+        Some(call) => page_of_call(alloc, reading, &call, bytes),
+        None => page_of_other(alloc, reading, asked, bytes),
     }
 }
 
@@ -73,30 +114,31 @@ fn whole_call(bytes: &[u8]) -> Option<LentCall<'_>>
 // What is printed of bytes that are no call.
 fn page_of_other(
     alloc: Global,
-    settings: &Settings<'_>,
+    reading: &Reading<'_, '_>,
     asked: Option<Asked>,
     bytes: &[u8],
 ) -> Result<Page, NoMemory>
     requires { (c : CallView) → CallBytes c bytes.now → ⊥ }
-    ensures { IfOk result (λ p. TellsPage (settings_of settings.now) asked bytes.now p) }
+    ensures { IfOk result (λ p. KeepsPage reading.now.show (settings_of reading.now.settings.now) asked bytes.now p) }
 {
     match read_reply(alloc, bytes) {
-        Ok(reply) => page_of_reply(alloc, settings, asked, &reply, bytes),
+        Ok(reply) => page_of_reply(alloc, reading, asked, &reply, bytes),
         Err(ReplyFault::NoMemory) => Err(NoMemory),
-        Err(_) => page_of_none(alloc, settings, bytes),
+        Err(_) => page_of_none(alloc, reading, bytes),
     }
 }
 
 fn page_of_call(
     alloc: Global,
-    settings: &Settings<'_>,
+    reading: &Reading<'_, '_>,
     call: &LentCall<'_>,
     bytes: &[u8],
 ) -> Result<Page, NoMemory>
     requires { CallBytes (lent_call_view call.now) bytes.now }
-    ensures { (asked : Option Asked) → IfOk result (λ p. TellsPage (settings_of settings.now) asked bytes.now p) }
+    ensures { (asked : Option Asked) → IfOk result
+        (λ p. KeepsPage reading.now.show (settings_of reading.now.settings.now) asked bytes.now p) }
 {
-    let body = call_page(alloc, settings, call, bytes)?;
+    let body = call_page(alloc, reading, call, bytes)?;
     Ok(Page {
         text: body.text,
         verdict: body.verdict,
@@ -115,15 +157,15 @@ fn page_of_call(
 
 fn page_of_reply(
     alloc: Global,
-    settings: &Settings<'_>,
+    reading: &Reading<'_, '_>,
     asked: Option<Asked>,
     reply: &Reply,
     bytes: &[u8],
 ) -> Result<Page, NoMemory>
     requires { ReplyBytes (reply_view reply.now) bytes.now }
-    ensures { IfOk result (λ p. TellsPage (settings_of settings.now) asked bytes.now p) }
+    ensures { IfOk result (λ p. KeepsPage reading.now.show (settings_of reading.now.settings.now) asked bytes.now p) }
 {
-    let body = reply_page(alloc, settings, asked, reply, bytes)?;
+    let body = reply_page(alloc, reading, asked, reply, bytes)?;
     Ok(Page {
         text: body.text,
         verdict: body.verdict,
@@ -131,17 +173,37 @@ fn page_of_reply(
     })
 }
 
-fn page_of_none(alloc: Global, settings: &Settings<'_>, bytes: &[u8]) -> Result<Page, NoMemory>
+fn page_of_none(
+    alloc: Global,
+    reading: &Reading<'_, '_>,
+    bytes: &[u8],
+) -> Result<Page, NoMemory>
     requires { IsNoMessage bytes.now }
-    ensures { (asked : Option Asked) → IfOk result (λ p. TellsPage (settings_of settings.now) asked bytes.now p) }
+    ensures { (asked : Option Asked) → IfOk result
+        (λ p. KeepsPage reading.now.show (settings_of reading.now.settings.now) asked bytes.now p) }
 {
-    let flaw = flaw_of(alloc, settings, bytes)?;
-    let mut text = Vec::from_slice(alloc, record_front(settings.form))?;
-    let end = nothing_text(alloc, settings.form)?;
-    text.extend_from_slice(&end)?;
+    let flaw = flaw_of(alloc, reading.settings, bytes)?;
+    let text = record_text(alloc, reading)?;
     Ok(Page {
         text,
         verdict: Verdict::Refused(flaw),
         said: Said::Neither,
     })
+}
+
+// The text of bytes that are no message, where that is wanted.
+fn record_text(alloc: Global, reading: &Reading<'_, '_>) -> Result<Vec<u8>, AllocError>
+    ensures { IfOk result (λ text. text.items ≡ kept reading.now.show
+        (record_front reading.now.settings.now.form ++ nothing_text reading.now.settings.now.form)) }
+{
+    let form = reading.settings.form;
+    match reading.show {
+        Show::Text => {
+            let mut text = Vec::from_slice(alloc, record_front(form))?;
+            let end = nothing_text(alloc, form)?;
+            text.extend_from_slice(&end)?;
+            Ok(text)
+        }
+        Show::Nothing => Ok(Vec::new(alloc)),
+    }
 }

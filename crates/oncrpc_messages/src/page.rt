@@ -1,4 +1,4 @@
-//! What is printed of a message.
+//! What is printed of a message, and what it is found to be.
 use crate::asked::Asked;
 use crate::refusal::Verdict;
 
@@ -11,6 +11,15 @@ pub enum Said {
     Reply { xid: u32 },
     /// Neither.
     Neither,
+}
+
+/// What a message is found to be.
+#[derive(Clone, Copy, Debug, PartialEq, Eq)]
+pub struct Found {
+    /// What its bytes are found to be. What is refused has its place in the message.
+    pub verdict: Verdict,
+    /// What the message is.
+    pub said: Said,
 }
 
 /// What is printed of a message, up to what is refused of it.

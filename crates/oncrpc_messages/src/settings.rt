@@ -1,6 +1,7 @@
 //! How messages are read and printed.
 use crate::form::Form;
 use crate::heads::Heads;
+use crate::show::Show;
 use xdr_lang::Declared;
 use xdr_types::Limits;
 
@@ -15,4 +16,11 @@ pub struct Settings<'a> {
     pub limits: Limits,
     /// How messages are printed.
     pub form: Form,
+}
+
+/// How a message is read, and whether its text is made.
+#[derive(Clone, Copy)]
+pub struct Reading<'r, 's> {
+    pub settings: &'r Settings<'s>,
+    pub show: Show,
 }

@@ -1,8 +1,9 @@
 -- What is printed of records, one after another, by what was heard before each (RFC 5531 sections 9, 11 and 12).
 use Rattle.std.specs.Prelude.{◌≡◌, ℕ, List, [], ◌∷◌, ◌++◌, Option, None, Some, is_some, ⊤}
 use Rattle.oncrpc_messages.specs.Closing.{closed}
-use Rattle.oncrpc_messages.specs.Messages.{TellsPage}
+use Rattle.oncrpc_messages.specs.Messages.{FindsMessage, TellsPage}
 use Rattle.oncrpc_messages.specs.declared.asked.Asked.{Asked}
+use Rattle.oncrpc_messages.specs.declared.page.Found.{Found}
 use Rattle.oncrpc_messages.specs.declared.page.Page.{Page}
 use Rattle.oncrpc_messages.specs.declared.page.Said.{Said}
 use Rattle.oncrpc_messages.specs.declared.page.Said.TheVariants as said
@@ -27,6 +28,14 @@ pub record TellsRecord (t : Terms) (history : List Heard) (way : ℕ) (bytes : L
   pub is_program : IsProgram page.said asked program
   pub tells : TellsPage (settings_by t program) asked bytes page
 
+-- What is found of a record that came on this way, by the same.
+pub record FindsRecord (t : Terms) (history : List Heard) (way : ℕ) (bytes : List ℕ) (found : Found)
+    (asked : Option Asked) : Type 0 where
+  pub program : ℕ
+  pub answers : Answers history way found.said asked
+  pub is_program : IsProgram found.said asked program
+  pub finds : FindsMessage (settings_by t program) asked bytes found
+
 -- What was heard so far, the newest first, and what was counted.
 pub record State : Type 0 where
   pub history : List Heard
@@ -40,11 +49,15 @@ nothing = record {
 }
 
 -- this was heard, too
-abbrev pub heard : State → (way time : ℕ) → Page → Option Asked → State
-heard s way time page asked = record {
-  history = record { way = way; time = time; said = page.said } ∷ s.history;
-  counts = counted page.said page.verdict (is_some asked) s.counts;
+abbrev pub heard_of : State → (way time : ℕ) → Found → Option Asked → State
+heard_of s way time found asked = record {
+  history = record { way = way; time = time; said = found.said } ∷ s.history;
+  counts = counted found.said found.verdict (is_some asked) s.counts;
 }
+
+-- the same of what is told
+abbrev pub heard : State → (way time : ℕ) → Page → Option Asked → State
+heard s way time page asked = heard_of s way time (record { verdict = page.verdict; said = page.said }) asked
 
 -- The text of a record that came on this way at this time, and the state behind it. Where something is refused, its
 -- place in the stream is any here.

@@ -3,7 +3,7 @@ ghost use Rattle.std.specs.Prelude.{◌≡◌, IfOk, string_bytes};
 ghost use Rattle.oncrpc_watch.specs.Counted.{counted, refused};
 ghost use Rattle.oncrpc_watch.specs.Lines.{counts_line, found_text, messages_text};
 
-use oncrpc_messages::{Form, Page, Said, Verdict};
+use oncrpc_messages::{Form, Said, Verdict};
 use std::alloc::{AllocError, Global};
 
 /// How many messages there were, and what they were found to be. A count stays at the greatest number.
@@ -38,11 +38,11 @@ impl Counts {
         }
     }
 
-    /// Counts a message, and whether the call to which it answers is known.
-    pub fn count(&mut self, page: &Page, known: bool)
-        ensures { self.new ≡ counted page.now.said page.now.verdict known self.old }
+    /// Counts a message by what it is, by what it is found to be, and by whether the call to which it answers is known.
+    pub fn count(&mut self, said: Said, verdict: Verdict, known: bool)
+        ensures { self.new ≡ counted said verdict known self.old }
     {
-        match page.said {
+        match said {
             Said::Call { .. } => self.calls = self.calls.saturating_add(1),
             Said::Reply { .. } => {
                 self.replies = self.replies.saturating_add(1);
@@ -52,7 +52,7 @@ impl Counts {
             }
             Said::Neither => self.others = self.others.saturating_add(1),
         }
-        match page.verdict {
+        match verdict {
             Verdict::Canonical => {}
             Verdict::Unjudged => self.unjudged = self.unjudged.saturating_add(1),
             Verdict::Refused(_) => self.refuse(),

@@ -3,7 +3,8 @@
 //!
 //! - `messages`: the call. `task`: what the words ask for. `both`: two directions, each reply behind its call.
 //!   `stream`: one direction, whose records are told by their `ending` line at last.
-//! - `watch`: a message told, by `terms`, with the call to which it answers; `counts` and the closing line of them.
+//! - `watch`: a message told or judged, by `terms`, with the call to which it answers; `counts` and the closing line of
+//!   them.
 //! - `table`: the calls that wait, by the way that they went and by their xid, of which the newest are kept, each under
 //!   its `key`.
 //! - `placed`: a source beside which `fragments` tell the places of a record's bytes.
@@ -27,4 +28,4 @@ pub use messages::messages_over;
 pub use table::{CallTable, MOST_CALLS};
 pub use task::{Known, MessagesTask};
 pub use terms::Terms;
-pub use watch::{Told, Watch};
+pub use watch::{Judged, Told, Watch};

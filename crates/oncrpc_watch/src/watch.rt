@@ -1,4 +1,4 @@
-//! Messages told one after another, with the calls to which replies answer.
+//! Messages told or judged one after another, with the calls to which replies answer.
 ghost use Rattle.std.specs.Prelude.{◌≡◌, ℕ, MatchOption, ⊤};
 ghost use Rattle.rpc_message.specs.Message.{CallView, ReplyView};
 ghost use Rattle.rpc_message.specs.Spelling.{CallBytes, ReplyBytes};
@@ -6,7 +6,8 @@ ghost use Rattle.rpc_message.specs.Spelling.{CallBytes, ReplyBytes};
 use crate::counts::Counts;
 use crate::table::CallTable;
 use crate::terms::Terms;
-use oncrpc_messages::{Asked, Form, Page, Said, call_program, read_message, reply_xid};
+use oncrpc_messages::{Asked, Form, Found, Page, Said};
+use oncrpc_messages::{call_program, judge_message, read_message, reply_xid};
 use std::alloc::Global;
 use xdr_types::NoMemory;
 
@@ -15,6 +16,15 @@ use xdr_types::NoMemory;
 pub struct Told {
     /// What is printed of it.
     pub page: Page,
+    /// The call to which it answers, where it is a reply and its call is known.
+    pub asked: Option<Asked>,
+}
+
+/// What is found of a record.
+#[derive(Clone, Copy)]
+pub struct Judged {
+    /// What it is found to be.
+    pub found: Found,
     /// The call to which it answers, where it is a reply and its call is known.
     pub asked: Option<Asked>,
 }
@@ -34,7 +44,7 @@ impl<'a> Watch<'a> {
     ghost use Rattle.oncrpc_watch.specs.Counted.{refused};
     ghost use Rattle.oncrpc_watch.specs.Heard.{Heard};
     ghost use Rattle.oncrpc_watch.specs.Represents.{IsAt, Recalls};
-    ghost use Rattle.oncrpc_watch.specs.Run.{State, TellsRecord, heard, nothing};
+    ghost use Rattle.oncrpc_watch.specs.Run.{FindsRecord, State, TellsRecord, heard, heard_of, nothing};
     ghost use Rattle.oncrpc_watch.specs.Terms.{terms_of};
     ghost use Rattle.oncrpc_watch.specs.Waiting.{waiting};
 
@@ -133,8 +143,30 @@ impl<'a> Watch<'a> {
         let settings = self.terms.settings(program_of(record, asked));
         let page = read_message(self.alloc, &settings, asked, record)?;
         self.note(way, time, page.said)?;
-        self.counts.count(&page, asked.is_some());
+        self.counts
+            .count(page.said, page.verdict, asked.is_some());
         Ok(Told { page, asked })
+    }
+
+    /// Judges a record of this way that came at this time, as `tell` does; no text is made of it. The error is an
+    /// allocation failure: then nothing is heard, nor counted.
+    pub fn judge(&mut self, way: u32, time: u64, record: &[u8]) -> Result<Judged, NoMemory>
+        // What is found is what its bytes say, by what was heard before,
+        ensures found { IfOk result (λ j. (s : State) → IsAt self.old s
+            → FindsRecord (terms_of self.old.terms) s.history way record.now j.found j.asked) }
+        // and it is heard then, and counted.
+        ensures heard { IfOk result (λ j. (s : State) → IsAt self.old s
+            → IsAt self.new (heard_of s way time j.found j.asked)) }
+        ensures unchanged { OnErr result ((s : State) → IsAt self.old s → IsAt self.new s) }
+        ensures terms { self.new.terms ≡ self.old.terms }
+    {
+        let asked = self.call_of(way, record);
+        let settings = self.terms.settings(program_of(record, asked));
+        let found = judge_message(self.alloc, &settings, asked, record)?;
+        self.note(way, time, found.said)?;
+        self.counts
+            .count(found.said, found.verdict, asked.is_some());
+        Ok(Judged { found, asked })
     }
 
     // The call that waits for a record of this way, where that says that it is a reply.

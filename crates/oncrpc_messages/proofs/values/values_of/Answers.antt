@@ -5,8 +5,10 @@ use Rattle.std.proofs.lemmas.List.{append-nil, length-drop, nil_from_length, tak
 use Rattle.xdr_lang.specs.Views.{places}
 use Rattle.oncrpc_messages.specs.declared.refusal.Why.TheVariants as why
 use Rattle.oncrpc_messages.specs.declared.values.Step.{Step}
+use Rattle.oncrpc_messages.specs.Private.Kept.{kept}
 use Rattle.oncrpc_messages.specs.Private.Told.{AreKinds, TakesValue}
 use Rattle.oncrpc_messages.specs.Values.{AreRefused, AreShown, between, shown_in}
+use Rattle.oncrpc_messages.proofs.Kept.{kept_join, kept_none}
 use Rattle.oncrpc_messages.proofs.Valued.{joined_text, none_left, one_left, place_at, refused_more, shown_more}
 use Rattle.oncrpc_messages.proofs.values.values_of.Goals as goal
 
@@ -14,7 +16,7 @@ pub values-init : goal.values-init
 values-init c =
     let b : List ℕ = c.args.bytes.now in
     record {
-      shown = λ t h. rw c.new-text.ensures.items h;
+      shown = ([], c.new-text.ensures.items ∙ kept_none c.args.terms.now.show, λ t h. h);
       refused = λ w n h.
           let none : length b - length b + n ≡ n = omega arith in
           rw none h;
@@ -36,22 +38,25 @@ values-preserved c =
     let old : List ℕ = c.values.text.items in
     let new : List ℕ = c.push_value.new.text.items in
     let used : ℕ = c.in-Taken.used in
-    let step = subst (λ (s : Step). TakesValue t.form K t.limits k first rest old new s) c.in-Taken.is
+    let step = subst (λ (s : Step). TakesValue t.show t.form K t.limits k first rest old new s) c.in-Taken.is
     c.in_ok-used.ensures in
+    let printed : List ℕ = inv.shown.0 in
     let v = step.0 in
     let a : List ℕ = between t.form first in
     let b : List ℕ = shown_in t.form K k v in
     let left : places (drop i ids) ≡ k ∷ ks = one_left ids i c.values-test.true in
     let tail : take (length rest - used) (drop used rest) ≡ drop used rest = take_rest rest used in
     let within = step.2 in
+    let made : new ≡ kept t.show (printed ++ (a ++ b)) = step.4
+    ∙ ap (λ (x : List ℕ). x ++ kept t.show (a ++ b)) inv.shown.1 ∙ kept_join t.show printed (a ++ b) in
     record {
-      shown = λ u h.
+      shown = (printed ++ (a ++ b), made, λ u h.
           let own = subst (λ (x : List ℕ). AreShown t.form K t.limits false ks x u) tail h in
           let more = shown_more t.form K t.limits k ks rest used v step.1 step.2 step.3 first u own in
-          let whole = inv.shown (a ++ (b ++ u))
+          let whole = inv.shown.2 (a ++ (b ++ u))
           (subst (λ (xs : List ℕ). AreShown t.form K t.limits first xs rest (a ++ (b ++ u))) (sym left) more) in
           subst (λ (x : List ℕ). AreShown t.form K t.limits true (places ids) c.args.bytes.now x)
-          (joined_text old new a b u step.4) whole;
+          (joined_text printed (printed ++ (a ++ b)) a b u refl) whole);
       refused = λ w n h.
           let own = subst (λ (x : List ℕ). AreRefused K t.limits ks x w n) tail h in
           let more = refused_more t.form K t.limits k ks rest used v step.1 step.2 step.3 w n own in
@@ -81,7 +86,8 @@ returns-in-Refused-clause-told c =
     let ks : List ℕ = places (drop (i + 1) ids) in
     let f = c.in-Refused.fault in
     let step = subst
-    (λ (s : Step). TakesValue t.form K t.limits k c.values.first rest c.values.text.items c.push_value.new.text.items s)
+    (λ (s : Step). TakesValue t.show t.form K t.limits k c.values.first rest c.values.text.items
+    c.push_value.new.text.items s)
     c.in-Refused.is c.in_ok-used.ensures in
     let left : places (drop i ids) ≡ k ∷ ks = one_left ids i c.values-test.true in
     c.values.invariant.refused (why.Bytes f.why) f.at
@@ -94,13 +100,14 @@ returns-then-is_empty-clause-told c =
     let K = t.schema.now.kinds in
     let ids = c.args.kinds.now in
     let rest : List ℕ = c.values.rest.now in
-    let old : List ℕ = c.values.text.items in
+    let printed : List ℕ = c.values.invariant.shown.0 in
     let none : places (drop c.values.index ids) ≡ [] = none_left ids c.values.index (omega arith) in
     let size : length rest ≡ 0 = search (rules, arith) in
     let empty : rest ≡ [] = nil_from_length rest size in
-    let whole = c.values.invariant.shown []
+    let whole = c.values.invariant.shown.2 []
     (subst (λ (xs : List ℕ). AreShown t.form K t.limits c.values.first xs rest []) (sym none) (empty, refl)) in
-    subst (λ (x : List ℕ). AreShown t.form K t.limits true (places ids) c.args.bytes.now x) (append-nil old) whole
+    let all = subst (λ (x : List ℕ). AreShown t.form K t.limits true (places ids) c.args.bytes.now x)
+    (append-nil printed) whole in (printed, all, c.values.invariant.shown.1)
 
 pub returns-else-is_empty-clause-told : goal.returns-else-is_empty-clause-told
 returns-else-is_empty-clause-told c =

@@ -8,12 +8,13 @@ use Rattle.oncrpc_capture.proofs.printing.Printing.record.Goals as goal
 
 pub returns-in_ok-count-in-Some : goal.returns-in_ok-count-in-Some
 returns-in_ok-count-in-Some g c =
-    message_counted c.args.self.now _ c.args.seen c.args.way c.args.bytes.now c.in_ok-told.told.page
-    c.in_ok-told.told.asked c.in_ok-told.ensures.told c.in_ok-told.ensures.heard c.in_ok-told.ensures.terms
+    let judged = c.in_ok-judged.judged in
+    message_counted c.args.self.now _ c.args.seen c.args.way c.args.bytes.now judged.found judged.asked
+    c.in_ok-judged.ensures.found c.in_ok-judged.ensures.heard c.in_ok-judged.ensures.terms
     (sym (ap (λ o. is_some o) c.in-Some.is)) _ (ap (λ o. is_some o) c.in-Some.is)
 
-pub returns-in-None : goal.returns-in-None
-returns-in-None g c =
+pub returns-in_ok-told-in-None : goal.returns-in_ok-told-in-None
+returns-in_ok-told-in-None g c =
     let page = c.in_ok-told.told.page in
     on_ok _
     (λ w. message_said c.args.self.now _ c.args.seen c.args.way c.args.bytes.now page c.in_ok-told.told.asked
