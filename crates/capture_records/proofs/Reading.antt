@@ -1,11 +1,10 @@
 -- How far the bytes of a direction are read.
-use Rattle.std.proofs.Common.{◌≡◌, ℕ, ◌+◌, ◌≤◌, suc, List, [], ◌∷◌, ◌++◌, length, take, drop}
+use Rattle.std.proofs.Common.{◌≡◌, ℕ, ◌+◌, suc, List, [], ◌∷◌, ◌++◌, length, take, drop}
 use Rattle.std.proofs.Common.{Option, Some, None, Result, Ok, Err}
 use Rattle.std.proofs.Common.{refl, sym, ap, ◌∙◌, subst, arith, append_assoc, length-append}
 use Rattle.std.proofs.lemmas.List.{append-nil, drop_all, nil_from_length, take-append-drop, take_all}
 use Rattle.std.specs.List.{AllByRecursion}
 use Rattle.capture_streams.specs.declared.direction.Direction.{Direction}
-use Rattle.capture_streams.specs.Held.{HoldsAt}
 use Rattle.capture_streams.specs.Represents.{IsOfSame, Stands}
 use Rattle.capture_streams.specs.Segments.{Arrival, IsFront, given}
 use Rattle.capture_streams.specs.declared.refusal.Refusal.{Refusal}

@@ -1,6 +1,6 @@
 -- What is told of a direction that is heard from its first byte on.
-use Rattle.std.proofs.Common.{◌≡◌, ℕ, ◌+◌, ◌<◌, ◌≤◌, ◌^◌, false, List, [], ◌∷◌, ◌++◌, length, take, drop}
-use Rattle.std.proofs.Common.{Option, Some, None, Ok, Err, refl, sym, ap, ◌∙◌, subst, arith, append_assoc, length-append}
+use Rattle.std.proofs.Common.{◌≡◌, ℕ, ◌<◌, ◌≤◌, ◌^◌, false, List, [], ◌∷◌, ◌++◌, length, take, drop}
+use Rattle.std.proofs.Common.{Some, None, Ok, Err, refl, sym, ap, ◌∙◌, subst, arith, append_assoc}
 use Rattle.std.proofs.lemmas.List.{append-nil, take-append-drop}
 use Rattle.std.proofs.lemmas.List.Elements.{All-nil, All-push}
 use Rattle.std.specs.List.{flat_map}
@@ -22,17 +22,16 @@ use Rattle.rpc_record.proofs.Longest.{one_reading}
 use Rattle.rpc_record.proofs.Readers.{Longest-taking}
 use Rattle.rpc_record.proofs.Streams.{Stream-push, whole_none}
 use Rattle.capture_records.specs.declared.finding.TheConstants.{MOST_RECORD}
-use Rattle.capture_records.specs.declared.side.Next.{Next}
 use Rattle.capture_records.specs.declared.side.Next.TheVariants as next
 use Rattle.capture_records.specs.declared.side.Side.{Side}
 use Rattle.capture_records.specs.declared.step.Step.{Step}
 use Rattle.capture_records.specs.declared.step.Step.TheVariants as step
 use Rattle.capture_records.specs.declared.told.Told.{Told}
-use Rattle.capture_records.specs.Carried.{AreAll, HasTooLong}
+use Rattle.capture_records.specs.Carried.{HasTooLong}
 use Rattle.capture_records.specs.Exact.{HasTold, IsFresh, IsQuiet, IsReading, IsSynced, IsToldBy, KeepsTold}
 use Rattle.capture_records.specs.Exact.{StepsTold, TakesAll, arrival_of}
 use Rattle.capture_records.specs.Follows.{Drops, untaken_of}
-use Rattle.capture_records.proofs.Reading.{drop_whole}
+use Rattle.capture_records.proofs.Reading.{drop_whole, not_here, side_as}
 
 -- ---- records
 
@@ -73,8 +72,7 @@ whole_more limit rs whole part r w one =
 long_behind : (limit at : ℕ) (rs : List (List ℕ)) (whole part : List ℕ) → IsWhole limit rs whole
     → TooLongAt limit [] at part → (place : ℕ) × TooLongAt limit rs place (whole ++ part)
 long_behind limit at rs whole part w t =
-    let u = t.upto in
-    (
+    let u = t.upto in (
       capped (length (whole ++ t.before)),
       record {
         before = whole ++ t.before;
@@ -136,6 +134,13 @@ told_same old new a b c e f g i = record {
   keeps = λ first arrivals rs h.
       (told_as old new a b e (subst IsSynced (sym c) h.synced) (quiet_same old new f g i)).keeps first arrivals rs h;
 }
+
+-- the next record begins there
+pub told_here : (old new : Side) → new.direction ≡ old.direction → new.reader ≡ old.reader
+    → untaken_of new ≡ untaken_of old → new.broken ≡ old.broken → new.missing ≡ old.missing
+    → new.passed ≡ old.passed → new.next ≡ next.Here → KeepsTold old new
+told_here old new a b e f g i here =
+    told_as old new a b e (subst IsSynced (sym here) tt) (quiet_same old new f g i)
 
 pub told_all : (a : Side) → KeepsTold a a
 told_all a = record { keeps = λ first arrivals rs h. h }
@@ -348,8 +353,7 @@ told_more old new reader piece r s same c f g i same_reader limit all more fills
       let longest : Longest MOST_RECORD rs h.handed =
       subst (λ (k : List ℕ). Longest MOST_RECORD rs k) (sym h.joined)
       (longest_behind MOST_RECORD rs h.whole (h.begun ++ untaken_of old) h.records
-      (Longest-taking MOST_RECORD reader (h.begun ++ untaken_of old) [] most is.0 represents)) in
-      (
+      (Longest-taking MOST_RECORD reader (h.begun ++ untaken_of old) [] most is.0 represents)) in (
         record {
           direction = h.direction;
           handed = h.handed;
@@ -409,3 +413,11 @@ told_long old new s piece r f reader memory all feeds reports other tells = reco
         long = subst (λ (k : List ℕ). TooLongAt MOST_RECORD rs behind.0 k) (sym h.joined) behind.1;
       });
 }
+
+-- ---- what stays
+
+pub ruleset telling = (told_same, fresh_same, fresh_new)
+
+-- ---- what is found
+
+pub ruleset finding = (side_as, not_here, told_here)

@@ -82,6 +82,7 @@ impl Side {
     ghost use Rattle.capture_records.specs.Follows.{Comes, Drops, GivesUp, Has, Keeps, KeepsNotes, Steps, untaken_of};
 
     /// Before the first segment.
+    #[tactic(auto, using(crate::proofs::Telling::telling))]
     pub fn new(alloc: Global) -> Side
         ensures has { Has result [] }
         ensures fresh { IsFresh result }
@@ -155,6 +156,7 @@ impl Side {
     }
 
     /// Notes a segment: the number and the time of its packet, and where its bytes end.
+    #[tactic(auto, using(crate::proofs::Telling::telling))]
     pub fn note(&mut self, segment: Segment<'_>, packet: (u64, u64))
         ensures keeps { Keeps self.old self.new }
         ensures told { KeepsTold self.old self.new }
@@ -294,6 +296,7 @@ impl Side {
 
     /// Lets all that it holds go, and says what is to be said of bytes that no record was made of. The next record has
     /// to be found.
+    #[tactic(auto, using(crate::proofs::Telling::telling))]
     pub fn let_go(&mut self) -> Option<(Told, u64)>
         ensures has { Has self.new [] }
         ensures fresh { self.old.broken ≡ None → self.old.missing ≡ 0 → IsFresh self.new }

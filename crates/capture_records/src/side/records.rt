@@ -32,7 +32,7 @@ impl Side {
     }
 
     // Finds the first record: it stands where the connection begins, if that is RPC.
-    #[tactic(auto, using(crate::proofs::Reading::side_as, crate::proofs::Reading::not_here))]
+    #[tactic(auto, using(crate::proofs::Telling::finding))]
     fn finds_first(&mut self, known: bool) -> bool
         requires { self.old.next ≡ First }
         ensures keeps { Keeps self.old self.new }
@@ -105,8 +105,10 @@ impl Side {
                 self.advance(left);
                 Ok(Step::Waits)
             }
-            Err(RecordFault::NoMemory) => Err(AllocError),
-            Err(_) => Ok(self.refuse()),
+            Err(fault) => match fault {
+                RecordFault::NoMemory => Err(AllocError),
+                _ => Ok(self.refuse()),
+            },
         }
     }
 

@@ -1,6 +1,6 @@
 use Rattle.capture_records.proofs.Reading.{side_begun}
 use Rattle.capture_records.proofs.Telling.{told_all, told_begun, told_none}
-use Rattle.std.proofs.Common.{◌≡◌, false, refl, sym, true, ◌∙◌}
+use Rattle.std.proofs.Common.{refl, sym, ◌∙◌}
 use Rattle.std.proofs.lemmas.Bool.{false≢true}
 use Rattle.capture_records.proofs.side.Side.begin.Goals as goal
 
@@ -19,7 +19,7 @@ returns-clause-keeps c =
 pub returns-clause-told : goal.returns-clause-told
 returns-clause-told c = λ fresh syn.
     told_begun c.args.self.now _ c.start.result _ refl (c.start.ensures.first ∙ c.first_of-first.ensures.number)
-    c.start.ensures.stands (c.first_place.ensures syn) refl refl refl refl refl fresh
+    c.start.ensures.stands (c.first_place-self.ensures syn) refl refl refl refl refl fresh
 
 pub returns-clause-begun : goal.returns-clause-begun
 returns-clause-begun c = told_none c.args.self.now _ (c.is_begun_by.ensures.none c.if-not-is_begun_by.false)

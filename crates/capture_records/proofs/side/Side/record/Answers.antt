@@ -23,8 +23,8 @@ returns-in-Ok-More-clause-steps c =
     arm.field-0 advanced.direction c.requires advanced.next advanced.reader piece arm.field-0-is arm.ensures.fills
     advanced.untaken
 
-pub returns-in-Err-clause-steps : goal.returns-in-Err-clause-steps
-returns-in-Err-clause-steps c =
+pub returns-in_default-clause-steps : goal.returns-in_default-clause-steps
+returns-in_default-clause-steps c =
     let anew = c.refuse.ensures.anew in
     steps_other c.args.self.now c.refuse.new.self c.refuse.result _
     (side_anew c.args.self.now c.refuse.new.self
@@ -53,9 +53,10 @@ returns-in-Ok-More-clause-told c =
     arm.field-0 advanced.direction advanced.next advanced.broken advanced.missing advanced.passed advanced.reader
     c.feed_into.ensures.limit piece arm.field-0-is arm.ensures.fills advanced.untaken
 
-pub returns-in-Err-clause-told : goal.returns-in-Err-clause-told
-returns-in-Err-clause-told c =
+pub returns-in_default-clause-told : goal.returns-in_default-clause-told
+returns-in_default-clause-told c =
     let piece = c.rest_of-untaken.ensures
     ∙ ap (λ (k : List ℕ). drop c.args.self.now.at k) c.deref.ensures.value in
-    told_long c.args.self.now c.refuse.new.self c.refuse.result c.rest_of-untaken.result.now _ ? c.feed_into.new.self ?
-    piece c.in-Err.ensures.fills c.in-Err.ensures.reports c.refuse.ensures.other c.refuse.ensures.tells
+    told_long c.args.self.now c.refuse.new.self c.refuse.result c.rest_of-untaken.result.now _ c.in-Err.fault
+    c.feed_into.new.self c.in_default.not-NoMemory piece c.in-Err.ensures.fills c.in-Err.ensures.reports
+    c.refuse.ensures.other c.refuse.ensures.tells

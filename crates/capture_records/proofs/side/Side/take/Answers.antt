@@ -33,8 +33,9 @@ returns-in-Err-PlacesEnd-clause-comes c =
 
 pub returns-in-Err-PlacesEnd-clause-told : goal.returns-in-Err-PlacesEnd-clause-told
 returns-in-Err-PlacesEnd-clause-told c = λ none.
+    let refused = rw c.in-Err-PlacesEnd.field-0-is at c.in-Err-PlacesEnd.ensures.refused in
     takes_past c.args.self.now c.drop_taken.new.self _ c.in_ok-drop_taken.ensures c.args.sequence c.args.bytes.now
-    c.in-Some.direction c.in-Some.is c.in-Err-PlacesEnd.ensures.refused.0
+    c.in-Some.direction c.in-Some.is refused.0
 
 pub returns-in-Err-Full-clause-comes : goal.returns-in-Err-Full-clause-comes
 returns-in-Err-Full-clause-comes c =
