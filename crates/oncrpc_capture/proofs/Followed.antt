@@ -1,8 +1,9 @@
 -- What connections have taken of segments, and one segment more.
-use Rattle.std.proofs.Common.{◌≡◌, ◌⊎◌, ℕ, ◌+◌, ◌%◌, ◌^◌, ◌<◌, ◌≤◌, Bool, true, false, List, [], ◌∷◌, ◌++◌, take, drop}
+use Rattle.std.proofs.Common.{◌≡◌, ◌⊎◌, ℕ, ◌+◌, ◌%◌, ◌^◌, ◌<◌, ◌≤◌, Bool, true, false, List, [], ◌∷◌, ◌++◌, length, take}
+use Rattle.std.proofs.Common.{drop, get_or, set, All}
 use Rattle.std.proofs.Common.{Option, Some, None, inl, inr, refl, sym, ap, ◌∙◌, subst, arith}
 use Rattle.std.proofs.lemmas.List.{drop-drop}
-use Rattle.std.proofs.lemmas.List.Elements.{All-weaker}
+use Rattle.std.proofs.lemmas.List.Elements.{All-get_or, All-push, All-set, All-weaker}
 use Rattle.std.specs.List.{AllByRecursion}
 use Rattle.std.specs.declared.net.socket_addr.SocketAddr.{SocketAddr}
 use Rattle.capture_packets.specs.Packet.{SegmentView}
@@ -21,7 +22,8 @@ use Rattle.oncrpc_capture.specs.Connections.{IsOneOf, IsPieceOf}
 use Rattle.oncrpc_capture.specs.declared.seen.Seen.{Seen}
 use Rattle.oncrpc_capture.specs.Nodes.{IsNode, IsSeen}
 use Rattle.oncrpc_capture.specs.Private.Follows.{ArePart, Finds, FlowFollows, Follow, Includes, IsNew, IsStep, Keeps}
-use Rattle.oncrpc_capture.specs.Private.Follows.{SideFollows, Steps, Takes, from_of, to_of}
+use Rattle.oncrpc_capture.specs.Private.Follows.{FindAt, IsFound, KeepAll, SideFollows, Steps, TakeAt, Takes, from_of}
+use Rattle.oncrpc_capture.specs.Private.Follows.{to_of}
 
 -- ---- lists
 
@@ -252,3 +254,50 @@ found_some old mid new up found r steps pair same_up same_down from to = record 
             (sym (to ∙ ap (λ (p : Pair). to_of p up) all)) k.1),
       );
 }
+
+-- ---- all connections, of which the one at a place changes
+
+module _ (old new : Flows) (at : ℕ) (f g : Flow) (low : at < length old.flows.items)
+    (was : f ≡ get_or old.flows.items at f) (is : new.flows.items ≡ set old.flows.items at g) where
+  follows_there : (ss : List SegmentView) → Follow ss old → FlowFollows ss f
+  follows_there ss h = subst (λ (x : Flow). FlowFollows ss x) (sym was)
+      (All-get_or (FlowFollows ss) old.flows.items at f low h)
+
+  follows_then : (ss : List SegmentView) → Follow ss old → FlowFollows ss g → Follow ss new
+  follows_then ss h k = subst (λ (xs : List Flow). All (FlowFollows ss) xs) (sym is)
+      (All-set (FlowFollows ss) old.flows.items at g k h)
+
+  pub keep_at : Keeps f g → KeepAll old new
+  keep_at keeps = record { keep = λ ss h. follows_then ss h (keeps.keeps ss (follows_there ss h)) }
+
+  pub take_at : (pair : Pair) (up : Bool) (sequence : ℕ) (bytes : List ℕ) → Takes f g pair up sequence bytes
+      → TakeAt old new pair up sequence bytes
+  take_at pair up sequence bytes takes = record {
+    take = λ ss part h. follows_then ss h (takes.takes ss part (follows_there ss h));
+  }
+
+  pub find_at : (found : Option Found) (r : List ℕ) → Finds f g found r → FindAt old new found r
+  find_at found r finds = record {
+    find = λ ss h.
+        let k = finds.finds ss (follows_there ss h) in
+        (follows_then ss h k.0, k.1);
+  }
+
+  pub put_at : IsNew g → KeepAll old new
+  put_at fresh = record { keep = λ ss h. follows_then ss h (fresh.follows ss) }
+
+-- none changes
+pub keep_all : (old new : Flows) → new.flows.items ≡ old.flows.items → KeepAll old new
+keep_all old new e =
+    record { keep = λ ss h. subst (λ (xs : List Flow). All (FlowFollows ss) xs) (sym e) h }
+
+-- a new one is put behind the others
+pub put_behind : (old new : Flows) (g : Flow) → new.flows.items ≡ old.flows.items ++ g ∷ [] → IsNew g
+    → KeepAll old new
+put_behind old new g e fresh = record {
+  keep = λ ss h. subst (λ (xs : List Flow). All (FlowFollows ss) xs) (sym e)
+      (All-push (FlowFollows ss) old.flows.items g h (fresh.follows ss));
+}
+
+pub keep_join : (a b c : Flows) → KeepAll a b → KeepAll b c → KeepAll a c
+keep_join a b c x y = record { keep = λ ss h. y.keep ss (x.keep ss h) }
