@@ -5,7 +5,6 @@ use Rattle.rpc_message.specs.Message.{CallView, ReplyView}
 use Rattle.rpc_message.specs.Spelling.{CallBytes, ReplyBytes}
 use Rattle.xdr_lang.specs.Declarations.{Procedure}
 use Rattle.oncrpc_messages.specs.declared.asked.Asked.{Asked}
-use Rattle.oncrpc_messages.specs.declared.form.Form.{Form}
 use Rattle.oncrpc_messages.specs.declared.refusal.Refusal.{Refusal}
 use Rattle.oncrpc_messages.specs.declared.refusal.Verdict.{Verdict}
 use Rattle.oncrpc_messages.specs.declared.show.Show.{Show}
@@ -70,7 +69,7 @@ call_kept w s bytes c p start name fields refused behind made v spelled p_is sta
       },
       is
           ∙ ap (λ (x : Option (List ℕ)). kept w (call_front s.form c x
-              ++ (cred_text s.form c.cred.flavor fields ++ behind))) named
+          ++ (cred_text s.form c.cred.flavor fields ++ behind))) named
           ∙ kept_part w (λ (x : Option (List ℕ)). front ++ (cred_text s.form c.cred.flavor x ++ behind)) fields f.0 f.2
           ∙ kept_with w (λ (x : List ℕ). front ++ (cred_text s.form c.cred.flavor f.0 ++ x)) behind b.0 b.2,
     )

@@ -127,12 +127,7 @@ fn values_body(
 }
 
 // Values in their place.
-fn values_text(
-    alloc: Global,
-    form: Form,
-    call: bool,
-    values: &[u8],
-) -> Result<Vec<u8>, AllocError>
+fn values_text(alloc: Global, form: Form, call: bool, values: &[u8]) -> Result<Vec<u8>, AllocError>
     ensures { IfOk result (λ text. text.items ≡ values_text form call values.now) }
 {
     let mut text = Vec::new(alloc);

@@ -173,11 +173,7 @@ fn page_of_reply(
     })
 }
 
-fn page_of_none(
-    alloc: Global,
-    reading: &Reading<'_, '_>,
-    bytes: &[u8],
-) -> Result<Page, NoMemory>
+fn page_of_none(alloc: Global, reading: &Reading<'_, '_>, bytes: &[u8]) -> Result<Page, NoMemory>
     requires { IsNoMessage bytes.now }
     ensures { (asked : Option Asked) → IfOk result
         (λ p. KeepsPage reading.now.show (settings_of reading.now.settings.now) asked bytes.now p) }

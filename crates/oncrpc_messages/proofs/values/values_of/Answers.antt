@@ -1,5 +1,5 @@
 -- The values that are left are those of the bytes that are left.
-use Rattle.std.proofs.Common.{◌≡◌, ◌≢◌, ℕ, ◌+◌, ◌-◌, ◌≤◌, ◌<◌, true, false, List, [], ◌∷◌, ◌++◌, length, take, drop}
+use Rattle.std.proofs.Common.{◌≡◌, ℕ, ◌+◌, ◌-◌, ◌<◌, true, false, List, [], ◌∷◌, ◌++◌, length, take, drop}
 use Rattle.std.proofs.Common.{refl, sym, ap, ◌∙◌, subst, inl, arith, rules}
 use Rattle.std.proofs.lemmas.List.{append-nil, length-drop, nil_from_length, take_rest}
 use Rattle.xdr_lang.specs.Views.{places}
@@ -50,13 +50,17 @@ values-preserved c =
     let made : new ≡ kept t.show (printed ++ (a ++ b)) = step.4
     ∙ ap (λ (x : List ℕ). x ++ kept t.show (a ++ b)) inv.shown.1 ∙ kept_join t.show printed (a ++ b) in
     record {
-      shown = (printed ++ (a ++ b), made, λ u h.
-          let own = subst (λ (x : List ℕ). AreShown t.form K t.limits false ks x u) tail h in
-          let more = shown_more t.form K t.limits k ks rest used v step.1 step.2 step.3 first u own in
-          let whole = inv.shown.2 (a ++ (b ++ u))
-          (subst (λ (xs : List ℕ). AreShown t.form K t.limits first xs rest (a ++ (b ++ u))) (sym left) more) in
-          subst (λ (x : List ℕ). AreShown t.form K t.limits true (places ids) c.args.bytes.now x)
-          (joined_text printed (printed ++ (a ++ b)) a b u refl) whole);
+      shown = (
+        printed ++ (a ++ b),
+        made,
+        λ u h.
+            let own = subst (λ (x : List ℕ). AreShown t.form K t.limits false ks x u) tail h in
+            let more = shown_more t.form K t.limits k ks rest used v step.1 step.2 step.3 first u own in
+            let whole = inv.shown.2 (a ++ (b ++ u))
+            (subst (λ (xs : List ℕ). AreShown t.form K t.limits first xs rest (a ++ (b ++ u))) (sym left) more) in
+            subst (λ (x : List ℕ). AreShown t.form K t.limits true (places ids) c.args.bytes.now x)
+            (joined_text printed (printed ++ (a ++ b)) a b u refl) whole,
+      );
       refused = λ w n h.
           let own = subst (λ (x : List ℕ). AreRefused K t.limits ks x w n) tail h in
           let more = refused_more t.form K t.limits k ks rest used v step.1 step.2 step.3 w n own in
