@@ -301,3 +301,9 @@ put_behind old new g e fresh = record {
 
 pub keep_join : (a b c : Flows) → KeepAll a b → KeepAll b c → KeepAll a c
 keep_join a b c x y = record { keep = λ ss h. y.keep ss (x.keep ss h) }
+
+pub take_none : (f : Flows) (pair : Pair) (up : Bool) (sequence : ℕ) (bytes : List ℕ) → TakeAt f f pair up sequence bytes
+take_none f pair up sequence bytes = record { take = λ ss part h. h }
+
+pub find_none : (f : Flows) (r : List ℕ) → FindAt f f None r
+find_none f r = record { find = λ ss h. (h, tt) }

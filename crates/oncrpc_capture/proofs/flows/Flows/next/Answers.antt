@@ -1,0 +1,18 @@
+use Rattle.std.proofs.Common.{Option, refl}
+use Rattle.std.proofs.lemmas.Result.{IfOk-weaker}
+use Rattle.oncrpc_capture.specs.declared.flow.Found.{Found}
+use Rattle.oncrpc_capture.specs.Private.Follows.{FindAt, Finds}
+use Rattle.oncrpc_capture.proofs.Followed.{find_at, find_none}
+use Rattle.oncrpc_capture.proofs.flows.Flows.next.Goals as goal
+
+pub returns-in-Some : goal.returns-in-Some
+returns-in-Some c =
+    let old = c.in-Some.flow.now in
+    let new = c.find.new.self in
+    let r = c.find.new.buffer.items in
+    let at = find_at c.args.self.now _ c.args.place old new (c.in-Some.ensures.variant.0 tt) c.in-Some.ensures.value
+    refl in
+    IfOk-weaker _ _ _ (λ found h. at found r h) c.find.ensures
+
+pub returns-in-None : goal.returns-in-None
+returns-in-None c = find_none c.args.self.now _
