@@ -6,8 +6,9 @@ ghost use Rattle.rpc_message.specs.Spelling.{CallBytes, ReplyBytes};
 use crate::counts::Counts;
 use crate::table::CallTable;
 use crate::terms::Terms;
-use oncrpc_messages::{Asked, Form, Found, Page, Said};
-use oncrpc_messages::{call_program, judge_message, read_message, reply_xid};
+use oncrpc_messages::{
+    Asked, Form, Found, Page, Said, call_program, judge_message, read_message, reply_xid,
+};
 use std::alloc::Global;
 use xdr_types::NoMemory;
 
@@ -143,8 +144,7 @@ impl<'a> Watch<'a> {
         let settings = self.terms.settings(program_of(record, asked));
         let page = read_message(self.alloc, &settings, asked, record)?;
         self.note(way, time, page.said)?;
-        self.counts
-            .count(page.said, page.verdict, asked.is_some());
+        self.counts.count(page.said, page.verdict, asked.is_some());
         Ok(Told { page, asked })
     }
 
