@@ -307,3 +307,6 @@ take_none f pair up sequence bytes = record { take = λ ss part h. h }
 
 pub find_none : (f : Flows) (r : List ℕ) → FindAt f f None r
 find_none f r = record { find = λ ss h. (h, tt) }
+
+pub find_keeps : (old new : Flows) (found : Option Found) (r : List ℕ) → FindAt old new found r → KeepAll old new
+find_keeps old new found r x = record { keep = λ ss h. (x.find ss h).0 }

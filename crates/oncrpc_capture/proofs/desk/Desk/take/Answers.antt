@@ -24,10 +24,10 @@ pieces-preserved g c =
       goes = on_goes _ _ _ _ _ _ _ _ _ _
           (on_goes _ _ _ _ _ _ _ _ _ _
           (on_takes s _ _ _ _ _ _ _ _ _ _ _ (seen_part s _ c.args.seen _ _ inv.at.0 _ _ c.requires
-          c.pair_of.ensures.from c.pair_of.ensures.to inv.at.1 inv.at.2) inv.goes c.in_ok-taken.ensures)
+          c.pair_of-up.ensures.from c.pair_of-up.ensures.to inv.at.1 inv.at.2) inv.goes c.in_ok-taken.ensures)
           c.in_ok-records.ensures.goes) c.in_ok-go_behind.ensures.goes;
       at = (
-        inv.at.0 + c.in_default-taken.count,
+        inv.at.0 + c.in-Some.count,
         next_number _ inv.at.0 _ _ _ inv.at.1 c.number_behind-sequence.ensures,
         next_bytes inv.at.0 _ _ _ _ inv.at.2 c.behind-rest.ensures,
       );
@@ -35,10 +35,10 @@ pieces-preserved g c =
       frame = c.go_behind.ensures.same.1 ∙ c.records.ensures.same.1 ∙ inv.frame;
     }
 
-pub returns-in_default-taken-clause-goes : goal.returns-in_default-taken-clause-goes
-returns-in_default-taken-clause-goes g c =
+pub returns-in_default-clause-goes : goal.returns-in_default-clause-goes
+returns-in_default-clause-goes g c =
     let inv = c.pieces.invariant in
     let s = segment_view c.args.segment in
     on_goes _ _ _ _ _ _ _ _ _ _
-    (on_takes s _ _ _ _ _ _ _ _ _ _ _ (seen_part s _ c.args.seen _ _ inv.at.0 _ _ c.requires c.pair_of.ensures.from
-    c.pair_of.ensures.to inv.at.1 inv.at.2) inv.goes c.in_ok-taken.ensures) c.in_ok-records.ensures.goes
+    (on_takes s _ _ _ _ _ _ _ _ _ _ _ (seen_part s _ c.args.seen _ _ inv.at.0 _ _ c.requires c.pair_of-up.ensures.from
+    c.pair_of-up.ensures.to inv.at.1 inv.at.2) inv.goes c.in_ok-taken.ensures) c.in_ok-records.ensures.goes

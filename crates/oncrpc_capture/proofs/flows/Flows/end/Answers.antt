@@ -4,7 +4,7 @@ use Rattle.oncrpc_capture.proofs.flows.Flows.end.Goals as goal
 
 pub returns-in-Some : goal.returns-in-Some
 returns-in-Some c =
-    keep_at c.args.self.now _ c.args.place c.in-Some.flow.now c.end.new.self (c.in-Some.ensures.variant.0 tt)
+    keep_at c.args.self.now _ c.args.place c.in-Some.flow.now c.end.new.self (c.in-Some.ensures.variant.0 refl)
     c.in-Some.ensures.value refl c.end.ensures
 
 pub returns-in-None : goal.returns-in-None

@@ -6,7 +6,7 @@ use Rattle.oncrpc_capture.proofs.flows.Flows.go_behind.Goals as goal
 pub returns-in-Some : goal.returns-in-Some
 returns-in-Some c = on_ok_weaker _
     (λ h. keep_at c.args.self.now _ c.args.place c.in-Some.flow.now c.go_behind.new.self
-    (c.in-Some.ensures.variant.0 tt) c.in-Some.ensures.value refl h) c.go_behind.ensures
+    (c.in-Some.ensures.variant.0 refl) c.in-Some.ensures.value refl h) c.go_behind.ensures
 
 pub returns-in-None : goal.returns-in-None
 returns-in-None c = keep_all c.args.self.now _ refl

@@ -10,7 +10,7 @@ returns-in-Some c =
     let old = c.in-Some.flow.now in
     let new = c.find.new.self in
     let r = c.find.new.buffer.items in
-    let at = find_at c.args.self.now _ c.args.place old new (c.in-Some.ensures.variant.0 tt) c.in-Some.ensures.value
+    let at = find_at c.args.self.now _ c.args.place old new (c.in-Some.ensures.variant.0 refl) c.in-Some.ensures.value
     refl in
     IfOk-weaker _ _ _ (λ found h. at found r h) c.find.ensures
 

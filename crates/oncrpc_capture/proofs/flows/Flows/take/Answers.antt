@@ -5,7 +5,7 @@ use Rattle.oncrpc_capture.proofs.flows.Flows.take.Goals as goal
 
 pub returns-in-Some : goal.returns-in-Some
 returns-in-Some c = on_ok_weaker _
-    (λ h. take_at c.args.self.now _ c.args.place c.in-Some.flow.now c.take.new.self (c.in-Some.ensures.variant.0 tt)
+    (λ h. take_at c.args.self.now _ c.args.place c.in-Some.flow.now c.take.new.self (c.in-Some.ensures.variant.0 refl)
     c.in-Some.ensures.value refl c.args.pair c.args.up c.args.sequence c.args.bytes.now h) c.take.ensures
 
 pub returns-in-None : goal.returns-in-None
