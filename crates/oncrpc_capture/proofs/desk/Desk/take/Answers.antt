@@ -23,8 +23,8 @@ pieces-preserved g c =
     record {
       goes = on_goes _ _ _ _ _ _ _ _ _ _
           (on_goes _ _ _ _ _ _ _ _ _ _
-          (on_takes s _ _ _ _ _ _ _ _ _ _ _ (seen_part s _ c.args.seen _ _ inv.at.0 _ _ c.requires
-          c.pair_of-up.ensures.from c.pair_of-up.ensures.to inv.at.1 inv.at.2) inv.goes c.in_ok-taken.ensures)
+          (on_takes s _ _ _ _ _ _ _ _ _ _ _ (seen_part s _ c.args.seen c.pair_of-up.result.0 c.pair_of-up.result.1
+          inv.at.0 _ _ c.requires c.pair_of-up.ensures.from c.pair_of-up.ensures.to inv.at.1 inv.at.2) inv.goes c.in_ok-taken.ensures)
           c.in_ok-records.ensures.goes) c.in_ok-go_behind.ensures.goes;
       at = (
         inv.at.0 + c.in-Some.count,
@@ -40,5 +40,6 @@ returns-in_default-clause-goes g c =
     let inv = c.pieces.invariant in
     let s = segment_view c.args.segment in
     on_goes _ _ _ _ _ _ _ _ _ _
-    (on_takes s _ _ _ _ _ _ _ _ _ _ _ (seen_part s _ c.args.seen _ _ inv.at.0 _ _ c.requires c.pair_of-up.ensures.from
+    (on_takes s _ _ _ _ _ _ _ _ _ _ _ (seen_part s _ c.args.seen c.pair_of-up.result.0 c.pair_of-up.result.1 inv.at.0
+    _ _ c.requires c.pair_of-up.ensures.from
     c.pair_of-up.ensures.to inv.at.1 inv.at.2) inv.goes c.in_ok-taken.ensures) c.in_ok-records.ensures.goes

@@ -1,4 +1,4 @@
-use Rattle.std.proofs.Common.{Option, refl}
+use Rattle.std.proofs.Common.{arith, refl}
 use Rattle.std.proofs.lemmas.Result.{IfOk-weaker}
 use Rattle.oncrpc_capture.specs.declared.flow.Found.{Found}
 use Rattle.oncrpc_capture.specs.Private.Follows.{FindAt, Finds}
@@ -10,7 +10,7 @@ returns-in-Some c =
     let old = c.in-Some.flow.now in
     let new = c.find.new.self in
     let r = c.find.new.buffer.items in
-    let at = find_at c.args.self.now _ c.args.place old new (c.in-Some.ensures.variant.0 refl) c.in-Some.ensures.value
+    let at = find_at c.args.self.now _ c.args.place old new (omega (arith, c.in-Some.ensures.variant.0 refl, c.args.self.now.flows.ok.0)) c.in-Some.ensures.value
     refl in
     IfOk-weaker _ _ _ (λ found h. at found r h) c.find.ensures
 
