@@ -1,7 +1,7 @@
 -- What connections have taken of segments, and one segment more.
-use Rattle.std.proofs.Common.{◌≡◌, ◌⊎◌, ℕ, ◌+◌, ◌%◌, ◌^◌, ◌<◌, ◌≤◌, Bool, true, false, List, [], ◌∷◌, ◌++◌, length, take}
+use Rattle.std.proofs.Common.{◌≡◌, ℕ, ◌+◌, ◌%◌, ◌^◌, ◌<◌, Bool, true, false, List, [], ◌∷◌, ◌++◌, length, take}
 use Rattle.std.proofs.Common.{drop, get_or, set, All}
-use Rattle.std.proofs.Common.{Option, Some, None, inl, inr, refl, sym, ap, ◌∙◌, subst, arith}
+use Rattle.std.proofs.Common.{Option, Some, None, inl, inr, sym, ap, ◌∙◌, subst, arith}
 use Rattle.std.proofs.lemmas.List.{drop-drop}
 use Rattle.std.proofs.lemmas.List.Elements.{All-get_or, All-push, All-set, All-weaker}
 use Rattle.std.specs.List.{AllByRecursion}
@@ -22,7 +22,7 @@ use Rattle.oncrpc_capture.specs.Connections.{IsOneOf, IsPieceOf}
 use Rattle.oncrpc_capture.specs.declared.seen.Seen.{Seen}
 use Rattle.oncrpc_capture.specs.Nodes.{IsNode, IsSeen}
 use Rattle.oncrpc_capture.specs.Private.Follows.{ArePart, Finds, FlowFollows, Follow, Includes, IsNew, IsStep, Keeps}
-use Rattle.oncrpc_capture.specs.Private.Follows.{FindAt, IsFound, KeepAll, SideFollows, Steps, TakeAt, Takes, from_of}
+use Rattle.oncrpc_capture.specs.Private.Follows.{FindAt, KeepAll, SideFollows, Steps, TakeAt, Takes, from_of}
 use Rattle.oncrpc_capture.specs.Private.Follows.{to_of}
 
 -- ---- lists

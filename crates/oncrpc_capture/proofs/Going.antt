@@ -1,14 +1,14 @@
 -- What is printed of connections, one more after another.
-use Rattle.std.proofs.Common.{◌≡◌, ℕ, Bool, true, false, List, [], ◌∷◌, ◌++◌, Option, Some, refl, sym, subst}
+use Rattle.std.proofs.Common.{◌≡◌, ℕ, Bool, true, List, [], ◌∷◌, ◌++◌, Option, Some, refl, sym, subst}
 use Rattle.capture_packets.specs.Packet.{SegmentView}
 use Rattle.oncrpc_capture.specs.declared.flow.Found.{Found}
 use Rattle.oncrpc_capture.specs.declared.flows.Flows.{Flows}
 use Rattle.oncrpc_capture.specs.declared.pairs.Pair.{Pair}
 use Rattle.oncrpc_capture.specs.declared.printing.Printing.{Printing}
-use Rattle.oncrpc_capture.specs.Brought.{BringsSegment, is_wanted}
+use Rattle.oncrpc_capture.specs.Brought.{is_wanted}
 use Rattle.oncrpc_capture.specs.Connections.{AreHeard, IsHeard}
 use Rattle.oncrpc_capture.specs.Entries.{Entry}
-use Rattle.oncrpc_capture.specs.Private.Follows.{ArePart, FindAt, Follow, Includes, KeepAll, TakeAt, from_of, to_of}
+use Rattle.oncrpc_capture.specs.Private.Follows.{ArePart, FindAt, Includes, KeepAll, TakeAt, from_of, to_of}
 use Rattle.oncrpc_capture.specs.Private.Steps.{Goes, GoesBy, GoesOn, Prints, PrintsFound, PrintsHeard, PrintsOf}
 use Rattle.oncrpc_capture.proofs.Datagrams.{both}
 use Rattle.oncrpc_capture.proofs.Followed.{each_join, follow_more, includes_last}

@@ -1,4 +1,3 @@
-use Rattle.std.proofs.Common.{refl}
 use Rattle.oncrpc_capture.proofs.Printed.{on_ok}
 use Rattle.oncrpc_capture.proofs.Going.{found_heard, heard_none, heard_one}
 use Rattle.oncrpc_capture.proofs.desk.Desk.print_found.Goals as goal

@@ -1,4 +1,4 @@
-use Rattle.std.proofs.Common.{ℕ, ◌+◌, refl, ◌∙◌}
+use Rattle.std.proofs.Common.{◌+◌, refl, ◌∙◌}
 use Rattle.capture_packets.specs.View.{segment_view}
 use Rattle.oncrpc_capture.proofs.Followed.{first_number, next_bytes, next_number, seen_part}
 use Rattle.oncrpc_capture.proofs.Going.{on_goes, on_none, on_takes}

@@ -1,7 +1,5 @@
 use Rattle.std.proofs.Common.{arith, refl}
 use Rattle.std.proofs.lemmas.Result.{IfOk-weaker}
-use Rattle.oncrpc_capture.specs.declared.flow.Found.{Found}
-use Rattle.oncrpc_capture.specs.Private.Follows.{FindAt, Finds}
 use Rattle.oncrpc_capture.proofs.Followed.{find_at, find_none}
 use Rattle.oncrpc_capture.proofs.flows.Flows.next.Goals as goal
 
