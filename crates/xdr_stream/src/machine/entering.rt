@@ -1,4 +1,4 @@
-//! Nodes that end and begin without a byte, where parts may follow that are there whole.
+//! Nodes that end and begin without a byte, where complete parts may follow.
 ghost use Rattle.std.specs.Prelude.{◌≡◌, ℕ, List, [], IfErr, OnOk};
 ghost use Rattle.xdr_types.specs.Kinds.{kind_at};
 ghost use Rattle.xdr_types.specs.KindViews.{kind_view};
@@ -17,7 +17,7 @@ use std::alloc::AllocError;
 use xdr_stack::Stack;
 use xdr_types::{Kind, KindId, Limits, Schema};
 
-/// How many nodes are begun in one step at most.
+/// How many nodes are begun in one turn at most.
 const MOST_NODES: u32 = 64;
 
 /// While as many may still be begun, a part that comes first is tried at once: in deeper ones it is begun.
@@ -101,14 +101,14 @@ pub(crate) fn enter<'s, B: Build>(
 }
 
 /// The same, and then the structures and fixed arrays that come first in it, up to one that is tried at once where so
-/// many bytes are there. Whether it began any.
+/// many bytes are here. Whether it began any.
 #[inline(always)]
 pub(crate) fn enter_nodes<'s, B: Build>(
     schema: &'s Schema,
     limits: Limits,
     id: KindId,
     kind: &'s Kind,
-    there: usize,
+    here: usize,
     work: &mut Frame<'s>,
     parents: &mut Stack<Frame<'s>>,
     built: &mut B,
@@ -134,7 +134,8 @@ pub(crate) fn enter_nodes<'s, B: Build>(
         };
         id = inner;
         kind = schema.kind(inner);
-        let is_tried = left >= LEAST_TRIED && (!is_bare(kind) || built.tries(schema, inner, there));
+        let is_tried = left >= LEAST_TRIED
+            && (!is_bare(kind) || built.takes_fixed_size(schema, inner, here));
         if left == 0 || is_tried {
             return Ok(true);
         }

@@ -20,7 +20,7 @@ ghost use Rattle.xdr_stream.specs.declared.machine.Awaits.TheVariants.{Next};
 use crate::builder::{Build, Leaf, Node};
 use crate::fault::Reason;
 use crate::machine::frame::{Frame, after, next};
-use crate::machine::number::{Made, made_in};
+use crate::machine::number::{Made, made_of_legal};
 use crate::machine::step::{Step, step_of};
 use crate::machine::{Awaits, Trouble};
 use std::alloc::AllocError;
@@ -201,12 +201,12 @@ pub(crate) fn take_number<'s, B: Build>(
         unreachable!();
     };
     let kind = schema.kind(id);
-    take_made(schema, id, kind, work, parents, built, number)
+    take_number_of_kind(schema, id, kind, work, parents, built, number)
 }
 
 /// The same of a part whose kind is known.
 #[inline(always)]
-pub(crate) fn take_made<'s, B: Build>(
+pub(crate) fn take_number_of_kind<'s, B: Build>(
     schema: &'s Schema,
     id: KindId,
     kind: &'s Kind,
@@ -230,7 +230,7 @@ pub(crate) fn take_made<'s, B: Build>(
     ensures sound { IsSound schema.now.kinds (stack_of work.new parents.new.items) }
 {
     let _known = schema.len();
-    let made = match made_in(schema, id, kind, number) {
+    let made = match made_of_legal(schema, id, kind, number) {
         Ok(made) => made,
         Err(why) => return Err(why),
     };

@@ -93,7 +93,7 @@ pub fn made_of<'s>(
 
 /// The same for a kind whose cases are legal, as each kind of a schema is.
 #[inline(always)]
-pub(crate) fn made_in<'s>(
+pub(crate) fn made_of_legal<'s>(
     schema: &'s Schema,
     id: KindId,
     kind: &'s Kind,
@@ -106,7 +106,7 @@ pub(crate) fn made_in<'s>(
         (Refuses schema.now.kinds (kind_view kind.now) number) }
 {
     match kind {
-        Kind::Choice { tag, arms, other } => picked(schema, id, *tag, arms, other, number),
+        Kind::Choice { tag, arms, other } => chosen_of_legal(schema, id, *tag, arms, other, number),
         _ => made_of(schema, id, kind, number),
     }
 }
@@ -141,7 +141,7 @@ fn chosen<'s>(
 
 // The part that a discriminant picks, where the cases are legal: without a default, what has a part is one of them.
 #[inline(always)]
-fn picked<'s>(
+fn chosen_of_legal<'s>(
     schema: &'s Schema,
     id: KindId,
     tag: KindId,

@@ -2,24 +2,24 @@
 //!
 //! - `start`: a reader before any byte. `due`: what is due then.
 //! - `pieces`: pieces of bytes, unit by unit. `parts`: what comes first at a part. `many`: many units at once.
-//! - `steps`: parts that are there whole, and nodes that end and begin between them. In it go `fields`: a number or
-//!   content, `entire`: parts that are taken at once, and `nodes`: those that end and begin; `onward`: how it goes on.
+//! - `turns`: complete parts, and nodes that end and begin between them. In it go `flat`: flat parts, `fixed_size`:
+//!   parts of kinds with one size, and `opening`: nodes that end and begin; `onward`: how it goes on.
 //! - `settling`: how reading goes on after what was taken.
 ghost use Rattle.xdr_stream.specs.Frames.{left_of};
 ghost use Rattle.xdr_stream.specs.Private.OneProof.{one_sound, one_wait};
 ghost use Rattle.xdr_stream.specs.Private.Sound.{IsSoundAt, Waits};
 
 pub(crate) mod due;
-pub(crate) mod entire;
-pub(crate) mod fields;
+pub(crate) mod fixed_size;
+pub(crate) mod flat;
 pub(crate) mod many;
-pub(crate) mod nodes;
 pub(crate) mod onward;
+pub(crate) mod opening;
 pub(crate) mod parts;
 pub(crate) mod pieces;
 pub(crate) mod settling;
 pub(crate) mod start;
-pub(crate) mod steps;
+pub(crate) mod turns;
 
 use crate::fault::DecodeFault;
 use crate::machine::Awaits;
