@@ -3,6 +3,7 @@ ghost use Rattle.std.specs.Prelude.{◌<◌, ◌≤◌, ◌+◌, IfSome, length}
 ghost use Rattle.xdr_stream.specs.Frames.{left_of};
 ghost use Rattle.xdr_stream.specs.Private.Complete.{IsFixedSize, KeepsDepth};
 
+use crate::machine::Reach;
 use crate::machine::frame::{Frame, next};
 use xdr_types::{KindId, Limits, Schema};
 
@@ -27,36 +28,35 @@ pub struct FixedSize {
 pub(crate) fn fixed_size_due(
     schema: &Schema,
     work: Frame<'_>,
-    limits: Limits,
+    reach: Reach,
     outside: usize,
     read: usize,
-    here: usize,
     before: Option<FixedSize>,
 ) -> Option<FixedSize>
-    requires { IfSome before (KeepsDepth schema.now.kinds limits outside) }
-    ensures { IfSome result (IsFixedSize schema.now.kinds (left_of work.entry) limits outside read here) }
+    requires { IfSome before (KeepsDepth schema.now.kinds reach.limits outside) }
+    ensures { IfSome result (IsFixedSize schema.now.kinds (left_of work.entry) reach.limits outside read reach.here) }
 {
-    let _in_range = limits.depth();
+    let _in_range = reach.limits.depth();
     let kind = next(&work)?;
     if let Some(part) = before {
         if part.kind.place == kind.place {
             return Some(FixedSize {
                 kind,
                 levels: part.levels,
-                most: most_bytes(limits, read, here),
+                most: most_bytes(reach.limits, read, reach.here),
             });
         }
     }
     schema.extent(kind)?;
     let levels = schema.levels(kind)?;
-    let left = (limits.depth() as usize).saturating_sub(outside);
+    let left = (reach.limits.depth() as usize).saturating_sub(outside);
     if outside == 0 || levels as usize > left {
         return None;
     }
     Some(FixedSize {
         kind,
         levels,
-        most: most_bytes(limits, read, here),
+        most: most_bytes(reach.limits, read, reach.here),
     })
 }
 

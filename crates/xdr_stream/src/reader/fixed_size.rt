@@ -6,6 +6,7 @@ ghost use Rattle.xdr_stream.specs.declared.reader.State.TheVariants.{Fresh};
 
 use crate::builder::Build;
 use crate::fault::Reason;
+use crate::machine::Reach;
 use crate::machine::frame::after;
 use crate::peek::size::fixed_size_due;
 use crate::reader::Reader;
@@ -27,16 +28,11 @@ impl<'s, B: Build + Drop> Reader<'s, B> {
         let mut at = 0;
         while at < bytes.len() {
             let outside = self.parents.len();
-            let here = bytes.len() - at;
-            let due = fixed_size_due(
-                self.schema,
-                self.work,
-                self.limits,
-                outside,
-                self.read,
-                here,
-                before,
-            );
+            let reach = Reach {
+                limits: self.limits,
+                here: bytes.len() - at,
+            };
+            let due = fixed_size_due(self.schema, self.work, reach, outside, self.read, before);
             let Some(part) = due else {
                 return (at, if at > 0 { Onward::Next } else { Onward::Begin });
             };

@@ -15,6 +15,7 @@ use crate::fault::Reason;
 use crate::machine::Awaits;
 use crate::machine::coming::is_unit_due;
 use crate::machine::entering::{enter_nodes, leave};
+use crate::machine::frame::Coming;
 use crate::machine::nodes::take_number_of_kind;
 use crate::machine::unit::{number_of, unit_at};
 use crate::reader::{Reader, State};
@@ -55,8 +56,7 @@ impl<'s, B: Build + Drop> Reader<'s, B> {
         match enter_nodes(
             self.schema,
             self.limits,
-            id,
-            kind,
+            Coming { id, kind },
             here,
             &mut self.work,
             &mut self.parents,
@@ -140,8 +140,7 @@ impl<'s, B: Build + Drop> Reader<'s, B> {
         let _in_range = self.limits.depth();
         match take_number_of_kind(
             self.schema,
-            id,
-            kind,
+            Coming { id, kind },
             &mut self.work,
             &mut self.parents,
             &mut self.built,

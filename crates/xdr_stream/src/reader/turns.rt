@@ -12,7 +12,7 @@ ghost use Rattle.xdr_stream.specs.declared.reader.State.TheVariants.{Fresh};
 
 use crate::builder::Build;
 use crate::machine::Awaits;
-use crate::machine::frame::{Frame, next};
+use crate::machine::frame::{Coming, Frame, next};
 use crate::machine::nodes::take_number_of_kind;
 use crate::machine::unit::{number_of, unit_at};
 use crate::peek::sort::{Sort, sort_of};
@@ -137,8 +137,7 @@ impl<'s, B: Build + Drop> Reader<'s, B> {
         let _in_range = self.limits.depth();
         match take_number_of_kind(
             self.schema,
-            id,
-            kind,
+            Coming { id, kind },
             &mut self.work,
             &mut self.parents,
             &mut self.built,

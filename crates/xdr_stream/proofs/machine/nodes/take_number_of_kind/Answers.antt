@@ -32,21 +32,21 @@ use Rattle.xdr_stream.proofs.machine.nodes.take_number_of_kind.Goals as goal
 pub made_of_legal-requires : goal.made_of_legal-requires
 made_of_legal-requires g c =
     let s : List KindView = c.args.schema.now.kinds in
-    let within = first_known s (left_of c.args.work.now) c.args.id.place c.requires.sound.0 c.requires.first in
+    let within = first_known s (left_of c.args.work.now) c.args.coming.id.place c.requires.sound.0 c.requires.first in
     record {
       kind = c.requires.kind;
       unit = c.requires.unit;
       legal = subst (λ (f : KindView). has_illegal_case s f ≡ false) (sym c.requires.kind)
-          (cases_legal c.args.schema.now c.len-known.ensures.well_formed c.args.id.place within);
+          (cases_legal c.args.schema.now c.len-known.ensures.well_formed c.args.coming.id.place within);
     }
 
 pub returns-in-Err-clause-refused : goal.returns-in-Err-clause-refused
 returns-in-Err-clause-refused g c = λ kind limits q rest ready small h.
     let s : List KindView = c.args.schema.now.kinds in
-    let k : KindView = kind_view c.args.kind.now in
+    let k : KindView = kind_view c.args.coming.kind.now in
     let unit : HasUnit (lead_of k) = c.requires.unit in
     let less : c.args.number < 2 ^ 32 = omega (arith, c.ranges.number) in
-    let n = next_ready s limits c.args.work.now c.args.parents.now.items c.args.id.place k c.requires.first
+    let n = next_ready s limits c.args.work.now c.args.parents.now.items c.args.coming.id.place k c.requires.first
     c.requires.kind ready in
     unit_refused s c.len-known.ensures.valued c.len-known.ensures.known kind limits (g.B.Build.reports c.args.built.now)
     (g.B.Build.reports c.args.built.now) c.args.work.now c.args.parents.now.items q k n c.args.number less small h
@@ -55,10 +55,10 @@ returns-in-Err-clause-refused g c = λ kind limits q rest ready small h.
 pub returns-in_ok-leaf-in-Leaf-clause-taken : goal.returns-in_ok-leaf-in-Leaf-clause-taken
 returns-in_ok-leaf-in-Leaf-clause-taken g c = λ kind limits q ready small h.
     let s : List KindView = c.args.schema.now.kinds in
-    let k : KindView = kind_view c.args.kind.now in
+    let k : KindView = kind_view c.args.coming.kind.now in
     let unit : HasUnit (lead_of k) = c.requires.unit in
     let less : c.args.number < 2 ^ 32 = omega (arith, c.ranges.number) in
-    let n = next_ready s limits c.args.work.now c.args.parents.now.items c.args.id.place k c.requires.first
+    let n = next_ready s limits c.args.work.now c.args.parents.now.items c.args.coming.id.place k c.requires.first
     c.requires.kind ready in
     let t = subst (λ (m : Made). Takes s k c.args.number m) c.in-Leaf.is c.in-Ok.ensures in
     let H : Trace → Type 0 = g.B.Build.reports c.args.built.now in
@@ -72,10 +72,10 @@ returns-in_ok-leaf-in-Leaf-clause-taken g c = λ kind limits q ready small h.
 pub returns-in_ok-open-in-Open-clause-taken : goal.returns-in_ok-open-in-Open-clause-taken
 returns-in_ok-open-in-Open-clause-taken g c = λ kind limits q ready small h.
     let s : List KindView = c.args.schema.now.kinds in
-    let k : KindView = kind_view c.args.kind.now in
+    let k : KindView = kind_view c.args.coming.kind.now in
     let unit : HasUnit (lead_of k) = c.requires.unit in
     let less : c.args.number < 2 ^ 32 = omega (arith, c.ranges.number) in
-    let n = next_ready s limits c.args.work.now c.args.parents.now.items c.args.id.place k c.requires.first
+    let n = next_ready s limits c.args.work.now c.args.parents.now.items c.args.coming.id.place k c.requires.first
     c.requires.kind ready in
     let t = subst (λ (m : Made). Takes s k c.args.number m) c.in-Open.is c.in-Ok.ensures in
     let opened = unit_open s c.len-known.ensures.valued c.len-known.ensures.known kind limits
@@ -87,10 +87,10 @@ returns-in_ok-open-in-Open-clause-taken g c = λ kind limits q ready small h.
 pub returns-then-size-eq0-clause-taken : goal.returns-then-size-eq0-clause-taken
 returns-then-size-eq0-clause-taken g c = λ kind limits q ready small h.
     let s : List KindView = c.args.schema.now.kinds in
-    let k : KindView = kind_view c.args.kind.now in
+    let k : KindView = kind_view c.args.coming.kind.now in
     let unit : HasUnit (lead_of k) = c.requires.unit in
     let less : c.args.number < 2 ^ 32 = omega (arith, c.ranges.number) in
-    let n = next_ready s limits c.args.work.now c.args.parents.now.items c.args.id.place k c.requires.first
+    let n = next_ready s limits c.args.work.now c.args.parents.now.items c.args.coming.id.place k c.requires.first
     c.requires.kind ready in
     let t = subst (λ (m : Made). Takes s k c.args.number m) c.in-Length.is c.in-Ok.ensures in
     let none : c.args.number ≡ 0 = omega (arith, t.1.1, c.if-size-eq0.true) in
@@ -104,10 +104,10 @@ returns-then-size-eq0-clause-taken g c = λ kind limits q ready small h.
 pub returns-else-size-eq0-clause-taken : goal.returns-else-size-eq0-clause-taken
 returns-else-size-eq0-clause-taken g c = λ kind limits q ready small h.
     let s : List KindView = c.args.schema.now.kinds in
-    let k : KindView = kind_view c.args.kind.now in
+    let k : KindView = kind_view c.args.coming.kind.now in
     let unit : HasUnit (lead_of k) = c.requires.unit in
     let less : c.args.number < 2 ^ 32 = omega (arith, c.ranges.number) in
-    let n = next_ready s limits c.args.work.now c.args.parents.now.items c.args.id.place k c.requires.first
+    let n = next_ready s limits c.args.work.now c.args.parents.now.items c.args.coming.id.place k c.requires.first
     c.requires.kind ready in
     let t = subst (λ (m : Made). Takes s k c.args.number m) c.in-Length.is c.in-Ok.ensures in
     rw (c.after-in-Length.ensures, t.1.1)
@@ -118,14 +118,14 @@ returns-else-size-eq0-clause-taken g c = λ kind limits q ready small h.
 pub returns-in_ok-open-in-Open-clause-sound : goal.returns-in_ok-open-in-Open-clause-sound
 returns-in_ok-open-in-Open-clause-sound g c =
     let s : List KindView = c.args.schema.now.kinds in
-    let k : KindView = kind_view c.args.kind.now in
-    let within = first_known s (left_of c.args.work.now) c.args.id.place c.requires.sound.0 c.requires.first in
+    let k : KindView = kind_view c.args.coming.kind.now in
+    let within = first_known s (left_of c.args.work.now) c.args.coming.id.place c.requires.sound.0 c.requires.first in
     let t = subst (λ (m : Made). Takes s k c.args.number m) c.in-Open.is c.in-Ok.ensures in
     let all : (h : Head) → AllByRecursion (λ (p : Part). p.kind < length s) (parts k h) = λ h.
     subst (λ (f : KindView). AllByRecursion (λ (p : Part). p.kind < length s) (parts f h)) (sym c.requires.kind)
-    (c.len-known.ensures.known c.args.id.place h within) in
+    (c.len-known.ensures.known c.args.coming.id.place h within) in
     let formed : IsFormedKind s k = subst (λ (f : KindView). IsFormedKind s f) (sym c.requires.kind)
-    (formed_of c.args.schema.now c.len-known.ensures.well_formed c.args.id.place) in
+    (formed_of c.args.schema.now c.len-known.ensures.well_formed c.args.coming.id.place) in
     let inner : AreKnown s (left_of c.in-Open.frame) = subst (λ (ps : List Part). AreKnown s ps) t.1.3
     (made_known s k (head_of s k c.args.number) all formed t.1.0) in
     subst (λ (fs : List (List Part)). IsSound s fs) (sym c.in_ok-open-in-Open.ensures.stack)
@@ -149,10 +149,10 @@ returns-in_err-open-in-Open-clause-spared g c =
     c.from_residual-in_err-open-in-Open.ensures.1 in
     rw (p.1, p.2) (λ limits kind q h free.
     let s : List KindView = c.args.schema.now.kinds in
-    let k : KindView = kind_view c.args.kind.now in
+    let k : KindView = kind_view c.args.coming.kind.now in
     let t = subst (λ (m : Made). Takes s k c.args.number m) c.in-Open.is c.in-Ok.ensures in
     let root = seen_root g.B.Build.spares s kind free limits (g.B.Build.reports c.args.built.now)
-    (left_of c.args.work.now) (onto [] c.args.parents.now.items) q c.args.id.place c.requires.first h in
+    (left_of c.args.work.now) (onto [] c.args.parents.now.items) q c.args.coming.id.place c.requires.first h in
     head_closed g.B.Build.spares s k c.args.number
     (subst (λ (f : KindView). TakesNone g.B.Build.spares f) (sym c.requires.kind) root)
     t.1.2)

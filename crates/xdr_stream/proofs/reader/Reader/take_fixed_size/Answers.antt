@@ -110,8 +110,8 @@ loop-at-preserved g c =
           subst (λ (x : Lists). EachKindHasAValue x.kinds) (sym i.1.schema_is) c.len-known.ensures.valued in
           let next = complete_seen s has r.kind.place r.limits (g.B.Build.reports r.built)
           (g.B.Build.reports c.fixed_size.new.self) r.work c.after-self.result r.parents.items
-          (q ++ take c.loop-at.at bs) u c.len-outside.result r.read (length bs - c.loop-at.at) c.in-Some.part d around w.0 t.0
-          (omega (arith, size, some)) (omega (arith, size, fewer))
+          (q ++ take c.loop-at.at bs) u c.len-outside.result r.read (length bs - c.loop-at.at) c.in-Some.part d around
+          w.0 t.0 (omega (arith, size, some)) (omega (arith, size, fewer))
           c.after-self.ensures t.1 w.2 in
           let all : (q ++ take c.loop-at.at bs) ++ u ≡ q ++ take (c.loop-at.at + n) bs =
           ap (λ (x : List ℕ). (q ++ take c.loop-at.at bs) ++ x) here ∙ joined q bs c.loop-at.at n in
