@@ -1,5 +1,5 @@
 -- The parts that are not filled yet, and the items and bytes so far.
-use Rattle.std.specs.Prelude.{◌≡◌, ◌≤◌, ℕ, ℤ, Bool, List, [], ◌∷◌, ◌++◌, replicate}
+use Rattle.std.specs.Prelude.{◌≡◌, ◌+◌, ◌≤◌, ℕ, ℤ, Bool, List, [], ◌∷◌, ◌++◌, length, take, drop, replicate}
 use Rattle.xdr_types.specs.Kinds.{KindView, kind_at}
 use Rattle.xdr_types.specs.Tree.{Tree, depth}
 use Rattle.xdr_types.specs.Fits.{Fits, item_part}
@@ -61,3 +61,18 @@ spelled_bytes (spelled.Unit bytes) = bytes
 spelled_bytes (spelled.Wide bytes) = bytes
 spelled_bytes (spelled.Fixed content) = padded content.now
 spelled_bytes (spelled.Counted size content) = size ++ padded content.now
+
+-- What the one filling stands for the other does.
+abbrev pub StaysFilled : Filling → Filling → Type 0
+StaysFilled f g = (place depth : ℕ) (is : List ItemView) (bytes : List ℕ)
+    → HasFilled f place depth is bytes → HasFilled g place depth is bytes
+
+-- These items stand behind those so far, and their bytes behind theirs. In a slice they stand behind the first so many,
+-- up to the end; all others stay.
+pub record PutsBehind (f g : Filling) (is : List ItemView) (old new : List ℕ) (at end : ℕ) : Type 0 where
+  pub bytes : List ℕ
+  pub fills : (place depth : ℕ) (js : List ItemView) (before : List ℕ) → HasFilled f place depth js before
+      → HasFilled g place depth (js ++ is) (before ++ bytes)
+  pub put : new ≡ take at old ++ (bytes ++ drop end old)
+  pub count : end ≡ at + length bytes
+  pub within : end ≤ length old

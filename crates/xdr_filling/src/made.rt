@@ -38,9 +38,9 @@ fn count_unit(count: u32) -> [u8; 4]
     bytes
 }
 
-// Whether an optional item is there.
+/// Whether an optional item is there.
 #[inline(always)]
-fn flag_made<'s, 'a>(kind: &'s Kind, flag: bool) -> Option<Made<'s, 'a>>
+pub(crate) fn flag_made<'s, 'a>(kind: &'s Kind, flag: bool) -> Option<Made<'s, 'a>>
     ensures { (kinds : List KindView) → IfSome result (Makes kinds (kind_view kind.now) (told.flag flag)) }
 {
     let Kind::Maybe { item } = kind else {
@@ -61,9 +61,9 @@ fn flag_made<'s, 'a>(kind: &'s Kind, flag: bool) -> Option<Made<'s, 'a>>
     }
 }
 
-// How many items of an array follow.
+/// How many items of an array follow.
 #[inline(always)]
-fn count_made<'s, 'a>(kind: &'s Kind, count: u32) -> Option<Made<'s, 'a>>
+pub(crate) fn count_made<'s, 'a>(kind: &'s Kind, count: u32) -> Option<Made<'s, 'a>>
     ensures { (kinds : List KindView) → IfSome result (Makes kinds (kind_view kind.now) (told.count count)) }
 {
     let Kind::UpTo { item, max } = kind else {
@@ -114,9 +114,9 @@ fn fixed_made<'s, 'a>(size: u32, bytes: &'a [u8]) -> Option<Made<'s, 'a>>
     })
 }
 
-// The content of an opaque or a string.
+/// The content of an opaque or a string.
 #[inline(always)]
-fn content_made<'s, 'a>(kind: &'s Kind, bytes: &'a [u8]) -> Option<Made<'s, 'a>>
+pub(crate) fn content_made<'s, 'a>(kind: &'s Kind, bytes: &'a [u8]) -> Option<Made<'s, 'a>>
     ensures { (kinds : List KindView) → IfSome result (Makes kinds (kind_view kind.now) (told.content bytes.now)) }
 {
     match kind {

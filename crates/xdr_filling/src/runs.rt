@@ -1,13 +1,15 @@
 //! Items of an array that are numbers of one unit, many at once.
-ghost use Rattle.std.specs.Prelude.{◌≡◌, ◌<◌, ◌≤◌, ◌++◌, ℕ, List, length, take, OnOk, IfOk, IfSome, true};
+ghost use Rattle.std.specs.Prelude.{◌≡◌, ◌+◌, ◌*◌, ◌<◌, ◌≤◌, ◌++◌, ℕ, List, length, take, OnOk, IfOk, IfSome, true};
 ghost use Rattle.xdr_units.specs.Numbers.{num4};
 ghost use Rattle.xdr_writer.specs.Items.{ItemView};
 ghost use Rattle.xdr_writer.specs.Runs.{as_items};
-ghost use Rattle.xdr_filling.specs.Filled.{AreDue, HasFilled, units};
+ghost use Rattle.xdr_filling.specs.Filled.{AreDue, HasFilled, PutsBehind, units};
 ghost use Rattle.xdr_filling.specs.Private.Makes.{AreUnits, IsRun, is_unit};
+ghost use Rattle.xdr_filling.specs.Private.Placed.{StandAt};
 
 use crate::filling::Filling;
 use crate::numbers::{is_int, is_unsigned_int, signed_unit, unsigned_unit};
+use crate::places::put_at;
 use std::alloc::AllocError;
 use xdr_stream::machine::frame::Frame;
 use xdr_types::{Kind, KindId};
@@ -69,8 +71,21 @@ fn push_units(signed: bool, numbers: &[i128], out: &mut Vec<u8>) -> Result<(), A
     Ok(())
 }
 
+// Puts numbers of one unit behind the first so many bytes.
+fn put_units(signed: bool, numbers: &[i128], at: usize, out: &mut [u8])
+    requires units { AreUnits signed numbers.now }
+    requires space { at + 4 * length numbers.now ≤ length out.old }
+    ensures { StandAt out.old out.new at (units numbers.now) }
+{
+    let mut end = at;
+    for number in numbers {
+        put_at(&unit(signed, *number), end, out);
+        end += 4;
+    }
+}
+
 impl<'s> Filling<'s> {
-    // The numbers of one unit that come next, items of an array.
+    // The numbers of one unit that come next, items of an array, at least two.
     #[inline(always)]
     fn run(&self) -> Option<Run>
         ensures { IfSome result (λ r. IsRun self.now r) }
@@ -78,7 +93,7 @@ impl<'s> Filling<'s> {
         let Frame::Items { item, left } = self.work.frame else {
             return None;
         };
-        if self.work.room == 0 || !self.schema.has(item) {
+        if left < 2 || self.work.room == 0 || !self.schema.has(item) {
             return None;
         }
         match self.schema.kind(item) {
@@ -131,5 +146,29 @@ impl<'s> Filling<'s> {
             left: run.left - count as u32,
         };
         Ok(count)
+    }
+
+    /// Takes the first of some numbers, items of an array of ints or unsigned ints, and puts their bytes behind the
+    /// first so many of `out` (RFC 4506 sections 4.1, 4.2, 4.13). It tells how many, of which 0 says nothing.
+    pub fn put_numbers(&mut self, numbers: &[i128], out: &mut [u8], at: usize) -> usize
+        requires { at ≤ length out.old }
+        // The numbers stand behind the items so far, and their bytes behind theirs.
+        ensures put { PutsBehind self.old self.new (as_items (take result numbers.now)) out.old out.new at
+            (at + 4 * result) }
+        ensures few { result ≤ length numbers.now }
+        ensures schema { self.new.schema.now ≡ self.old.schema.now }
+    {
+        let Some(run) = self.run() else {
+            return 0;
+        };
+        let space = (out.len() - at) / 4;
+        let most = numbers.len().min(run.left as usize).min(space);
+        let count = units_in_front(run.signed, &numbers[..most]);
+        put_units(run.signed, &numbers[..count], at, out);
+        self.work.frame = Frame::Items {
+            item: run.item,
+            left: run.left - count as u32,
+        };
+        count
     }
 }
