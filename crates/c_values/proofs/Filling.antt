@@ -32,8 +32,16 @@ at_front f g is old new at end p low =
 pub as_many : (f g : Filling) (is : List ItemView) (old new : List ℕ) (at end : ℕ) → PutsBehind f g is old new at end
     → at ≤ length old → length new ≡ length old
 as_many f g is old new at end p low =
-    omega (arith, ap (λ (l : List ℕ). length l) p.put, length-append (take at old) (p.bytes ++ drop end old),
-    length-append p.bytes (drop end old), length-take-le at old low, p.count, p.within, length-drop end old)
+    omega (
+      arith,
+      ap (λ (l : List ℕ). length l) p.put,
+      length-append (take at old) (p.bytes ++ drop end old),
+      length-append p.bytes (drop end old),
+      length-take-le at old low,
+      p.count,
+      p.within,
+      length-drop end old,
+    )
 
 module _ (q : Question) (f : Filling) (content : List ℕ) (cs : List ValueItem) (at : ℕ) where
   -- with bytes that are the same

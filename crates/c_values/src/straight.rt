@@ -139,7 +139,10 @@ fn space_for(items: &[ValueItem], content: &[u8], before: usize, most: usize) ->
         _ => 0,
     };
     let others = content.len().saturating_sub(items[items.len() - 1].count);
-    let all = items.len().saturating_mul(8).saturating_add(first.max(others));
+    let all = items
+        .len()
+        .saturating_mul(8)
+        .saturating_add(first.max(others));
     let space = before.saturating_add(all.max(before));
     space.min(most).max(before)
 }

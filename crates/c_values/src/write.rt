@@ -75,9 +75,7 @@ fn write_into(
             Err(_) => return Answer::NoMemory,
         }
     }
-    write_far(
-        alloc, schema, kind, limits, items, content, buffer, written,
-    )
+    write_far(alloc, schema, kind, limits, items, content, buffer, written)
 }
 
 /// The same by declarations, which stay. The name is looked at before the limits.

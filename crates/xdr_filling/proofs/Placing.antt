@@ -35,8 +35,14 @@ module _ (old new x : List ℕ) (at : ℕ) (h : StandAt old new at x) (low : at 
   -- there are as many as before
   pub same_count : at + length x ≤ length old → length new ≡ length old
   same_count few =
-      omega (arith, ap (λ (l : List ℕ). length l) split, count, few, length-drop (at + length x) old,
-      length-append (take at old ++ x) (drop (at + length x) old))
+      omega (
+        arith,
+        ap (λ (l : List ℕ). length l) split,
+        count,
+        few,
+        length-drop (at + length x) old,
+        length-append (take at old ++ x) (drop (at + length x) old),
+      )
 
 -- some behind others
 pub stand_more : (old mid new x y : List ℕ) (at : ℕ) → at ≤ length old → StandAt old mid at x
