@@ -1,98 +1,53 @@
 //! A value's encoding straight from its items, and where that tells nothing by the writer.
-ghost use Rattle.std.specs.Prelude.{◌≡◌, ◌+◌, ◌*◌, ◌≤◌, ◌<◌, ℕ, List, [], length, take, IfOk, IfErr, IfSome};
-ghost use Rattle.c_values.specs.Answers.{Question};
+ghost use Rattle.std.specs.Prelude.{◌≤◌, ◌<◌, length, take, IfOk, IfErr, IfSome};
 ghost use Rattle.c_values.specs.Items.{given};
 ghost use Rattle.c_values.specs.Written.{IsEncoded};
-ghost use Rattle.c_values.specs.Private.Encodings.{bytes_in, AreFilled, PutsMore};
+ghost use Rattle.c_values.specs.Private.Encodings.{bytes_in};
 ghost use Rattle.c_values.specs.Private.Writing.{IsUnwritten};
 
 use super::answer::Answer;
 use super::encoding::Encoding;
 use super::item::ValueItem;
-use super::numbers::{MOST, copy_numbers};
+use super::numbers::copy_numbers;
 use super::writing::encode_items;
 use std::alloc::{AllocError, Global};
-use xdr_filling::Filling;
+use xdr_filling::{Filling, Source};
 use xdr_types::{KindId, Limits, Schema};
 use xdr_writer::Item;
 
 /// How many bytes are few.
 pub const FEW: usize = 256;
 
-/// How many numbers are put one by one, at most.
-const ALONE: usize = 3;
-
-// So many items that are put, and so many bytes that they have.
-#[derive(Clone, Copy)]
-struct Front {
-    items: usize,
-    bytes: usize,
+// Items that C lends, and the bytes in which their content lies.
+struct Lent<'a> {
+    items: &'a [ValueItem],
+    content: &'a [u8],
 }
 
-// Puts the numbers with which the items begin, where so many are due; tells how many, of which 0 says nothing.
-#[inline(never)]
-fn put_numbers(
-    filling: &mut Filling,
-    items: &[ValueItem],
-    due: usize,
-    out: &mut [u8],
-    at: usize,
-) -> usize
-    requires { at ≤ length out.old }
-    ensures few { result ≤ length items.now }
-    ensures put { (content : List ℕ) → PutsMore filling.old filling.new content (take result items.now) out.old out.new
-        at (at + 4 * result) }
-    ensures schema { filling.new.schema.now ≡ filling.old.schema.now }
-{
-    let mut numbers = [0; MOST];
-    let most = items.len().min(due);
-    let count = copy_numbers(&items[..most], &mut numbers);
-    filling.put_numbers(&numbers[..count], out, at)
-}
+impl<'a> Source for Lent<'a> {
+    ghost use Rattle.std.specs.Prelude.{◌<◌, length, get_or};
+    ghost use Rattle.c_values.specs.Items.{Tells};
+    ghost use Rattle.c_values.specs.declared.item.ValueItem.{ValueItem};
 
-// Puts the next items behind so many others, until one does not go into the bytes, or no value is known to have it.
-fn put_front(
-    filling: &mut Filling,
-    items: &[ValueItem],
-    content: &[u8],
-    before: Front,
-    out: &mut [u8],
-) -> Result<Front, AllocError>
-    requires items { before.items ≤ length items.now }
-    requires bytes { before.bytes ≤ length out.old }
-    // The items are behind those before, and their bytes behind theirs.
-    ensures front { IfOk result (λ f. (q : Question)
-        → AreFilled q filling.old content.now items.now before.items (take before.bytes out.old)
-        → AreFilled q filling.new content.now items.now f.items (take f.bytes out.new)) }
-    ensures within { IfOk result (λ f. (f.items ≤ length items.now) × (f.bytes ≤ length out.new)) }
-    ensures more { IfOk result (λ f. before.items ≤ f.items) }
-    ensures schema { filling.new.schema.now ≡ filling.old.schema.now }
-{
-    let mut at = before.items;
-    let mut end = before.bytes;
-    while at < items.len() {
-        let due = filling.numbers_due();
-        if due > ALONE {
-            let count = put_numbers(filling, &items[at..], due, out, end);
-            at += count;
-            end += 4 * count;
-            if count > 0 {
-                continue;
-            }
-        }
-        let Ok(item) = items[at].told(content) else {
-            break;
-        };
-        match filling.put(item, out, end)? {
-            Some(to) => end = to,
-            None => break,
-        }
-        at += 1;
+    ghost tells = { λ s at i. (d : ValueItem) → Tells s.content.now (get_or s.items.now at d) i };
+
+    ghost many = { λ s. length s.items.now };
+
+    fn count(&self) -> usize {
+        self.items.len()
     }
-    Ok(Front {
-        items: at,
-        bytes: end,
-    })
+
+    #[inline(always)]
+    fn item(&self, at: usize) -> Option<Item<'_>> {
+        match self.items[at].told(self.content) {
+            Ok(item) => Some(item),
+            Err(_) => None,
+        }
+    }
+
+    fn numbers(&self, from: usize, numbers: &mut [i128]) -> usize {
+        copy_numbers(&self.items[from..], numbers)
+    }
 }
 
 /// Whether the items, and the bytes in which their content lies, are few enough for few bytes.
@@ -115,68 +70,26 @@ pub fn encode_near(
         (record { kinds = schema.now.kinds; place = kind.place; limits = limits }) (given items.now content.now)
         (take n out.new))) }
 {
-    let none = Front { items: 0, bytes: 0 };
     let mut filling = Filling::start(alloc, schema, kind, limits);
-    let front = put_front(&mut filling, items, content, none, out)?;
-    if front.items < items.len() || front.bytes > limits.bytes() as usize {
+    let source = Lent { items, content };
+    let Some(end) = filling.put_all(&source, out)? else {
+        return Ok(None);
+    };
+    if end > limits.bytes() as usize || !filling.is_whole()? {
         return Ok(None);
     }
-    if filling.is_whole()? {
-        Ok(Some(front.bytes))
-    } else {
-        Ok(None)
-    }
+    Ok(Some(end))
 }
 
-// How many bytes there are to be space for where these items are to be put behind so many bytes. The last of them is
-// not counted: its content is not copied.
-fn space_for(items: &[ValueItem], content: &[u8], before: usize, most: usize) -> usize
-    requires some { 0 < length items.now }
-    ensures { before ≤ result }
-{
-    let first = match items[0].told(content) {
-        Ok(Item::Content(bytes)) => bytes.len(),
-        _ => 0,
+// How many bytes there are to be space for, for all items but the last, whose content is not copied. No item says how
+// many are to come, so that a count asks for nothing.
+fn space_for(items: &[ValueItem], content: &[u8], most: usize) -> usize {
+    let lent = match items.last() {
+        Some(last) => last.count,
+        None => 0,
     };
-    let others = content.len().saturating_sub(items[items.len() - 1].count);
-    let all = items
-        .len()
-        .saturating_mul(8)
-        .saturating_add(first.max(others));
-    let space = before.saturating_add(all.max(before));
-    space.min(most).max(before)
-}
-
-// The items but for the last, or all: how many are put, and their bytes. `None` says nothing.
-fn put_items(
-    filling: &mut Filling,
-    items: &[ValueItem],
-    content: &[u8],
-    most: usize,
-    out: &mut Vec<u8>,
-) -> Result<Option<usize>, AllocError>
-    requires { out.old.items ≡ [] }
-    ensures front { IfOk result (λ o. IfSome o (λ n. (q : Question)
-        → AreFilled q filling.old content.now items.now 0 []
-        → AreFilled q filling.new content.now items.now n out.new.items)) }
-    ensures nearly { IfOk result (λ o. IfSome o (λ n. (n ≤ length items.now) × (length items.now ≤ n + 1))) }
-    ensures schema { filling.new.schema.now ≡ filling.old.schema.now }
-{
-    let mut at = 0;
-    while items.len() - at > 1 {
-        let before = Front {
-            items: at,
-            bytes: out.len(),
-        };
-        out.resize(space_for(&items[at..], content, before.bytes, most), 0)?;
-        let front = put_front(filling, items, content, before, out.as_mut_slice())?;
-        out.truncate(front.bytes);
-        if front.items == at {
-            return Ok(None);
-        }
-        at = front.items;
-    }
-    Ok(Some(at))
+    let copied = content.len().saturating_sub(lent);
+    items.len().saturating_mul(8).saturating_add(copied).min(most)
 }
 
 // The encoding of the value of the kind within the limits that has these items. `None` says nothing: it is answered
@@ -195,20 +108,27 @@ fn encode_straight<'a>(
 {
     let most = limits.bytes() as usize;
     let mut filling = Filling::start(alloc, schema, kind, limits);
-    let mut out = Vec::new(alloc);
-    let Some(at) = put_items(&mut filling, items, content, most, &mut out)? else {
+    let Some((last, first)) = items.split_last() else {
         return Ok(None);
     };
+    let mut out = Vec::new(alloc);
+    out.resize(space_for(items, content, most), 0)?;
+    let source = Lent {
+        items: first,
+        content,
+    };
+    let Some(end) = filling.put_all(&source, out.as_mut_slice())? else {
+        return Ok(None);
+    };
+    out.truncate(end);
     let mut encoding = Encoding::of(out);
-    if at < items.len() {
-        let Ok(item) = items[at].told(content) else {
-            return Ok(None);
-        };
-        let Some(spelled) = filling.take(item)? else {
-            return Ok(None);
-        };
-        encoding.put(spelled)?;
-    }
+    let Ok(item) = last.told(content) else {
+        return Ok(None);
+    };
+    let Some(spelled) = filling.take(item)? else {
+        return Ok(None);
+    };
+    encoding.put(spelled)?;
     if encoding.len() > most || !filling.is_whole()? {
         return Ok(None);
     }

@@ -61,9 +61,9 @@ pub(crate) fn flag_made<'s, 'a>(kind: &'s Kind, flag: bool) -> Option<Made<'s, '
     }
 }
 
-/// How many items of an array follow.
+// How many items of an array follow.
 #[inline(always)]
-pub(crate) fn count_made<'s, 'a>(kind: &'s Kind, count: u32) -> Option<Made<'s, 'a>>
+fn count_made<'s, 'a>(kind: &'s Kind, count: u32) -> Option<Made<'s, 'a>>
     ensures { (kinds : List KindView) → IfSome result (Makes kinds (kind_view kind.now) (told.count count)) }
 {
     let Kind::UpTo { item, max } = kind else {
@@ -82,9 +82,9 @@ pub(crate) fn count_made<'s, 'a>(kind: &'s Kind, count: u32) -> Option<Made<'s, 
     })
 }
 
-// Content behind its length (RFC 4506 sections 4.10, 4.11).
+/// Content behind its length (RFC 4506 sections 4.10, 4.11).
 #[inline(always)]
-fn counted_made<'s, 'a>(max: u32, bytes: &'a [u8]) -> Option<Made<'s, 'a>>
+pub(crate) fn counted_made<'s, 'a>(max: u32, bytes: &'a [u8]) -> Option<Made<'s, 'a>>
     ensures { (kinds : List KindView) → IfSome result (λ m. Makes kinds (opaque_up_to max) (told.content bytes.now) m
         × Makes kinds (text max) (told.content bytes.now) m) }
 {
@@ -114,9 +114,9 @@ fn fixed_made<'s, 'a>(size: u32, bytes: &'a [u8]) -> Option<Made<'s, 'a>>
     })
 }
 
-/// The content of an opaque or a string.
+// The content of an opaque or a string.
 #[inline(always)]
-pub(crate) fn content_made<'s, 'a>(kind: &'s Kind, bytes: &'a [u8]) -> Option<Made<'s, 'a>>
+fn content_made<'s, 'a>(kind: &'s Kind, bytes: &'a [u8]) -> Option<Made<'s, 'a>>
     ensures { (kinds : List KindView) → IfSome result (Makes kinds (kind_view kind.now) (told.content bytes.now)) }
 {
     match kind {
