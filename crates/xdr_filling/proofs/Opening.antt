@@ -1,11 +1,13 @@
 -- What becomes of the parts that are not filled where the next is.
 use Rattle.std.proofs.Common.{◌≡◌, ℕ, ◌+◌, ◌≤◌, List, [], ◌∷◌, ◌++◌, refl, ap, sym, ◌∙◌, subst, arith, length, replicate}
-use Rattle.std.proofs.Common.{map, suc, zero, ◌-◌, ◌<◌, get_or}
+use Rattle.std.proofs.Common.{map, suc, zero, ◌-◌, ◌<◌, get_or, append-nil, Bool, true, false, not, drop}
+use Rattle.std.proofs.lemmas.Bool.{false≢true}
 use Rattle.std.specs.Prelude.{Option, Some, None, MatchOption}
 use Rattle.xdr_types.specs.Kinds.{KindView, Part, kind_at}
 use Rattle.xdr_types.specs.KindViews.{part_of_member}
 use Rattle.xdr_types.specs.Fits.{item_part}
 use Rattle.xdr_types.specs.declared.kind.KindId.{KindId}
+use Rattle.xdr_types.specs.declared.kind.Member.{Member}
 use Rattle.xdr_writer.specs.Items.{ItemView}
 use Rattle.xdr_filling.specs.Holes.{Hole, hole, Goes}
 use Rattle.xdr_filling.specs.Gaps.{hole_of, holes_in, onto, parts_of}
@@ -100,3 +102,25 @@ module _ (s : List KindView) where
       → Goes s b c js y → Goes s r c (is ++ js) (x ++ y)
   item_goes r a b c is js x y before silent f =
       goes_on s r b c is js x y (goes_by s r a b is x before silent) f
+
+-- what the parts of a gap are, by its frame
+pub fields_alone : (item : ℕ) (ps : List Part) → replicate 0 (item_part item) ++ ps ≡ ps
+fields_alone item ps = refl
+
+pub items_alone : (item left : ℕ) → replicate left (item_part item) ++ [] ≡ replicate left (item_part item)
+items_alone item left = append-nil (replicate left (item_part item))
+
+pub is_on : (b : Bool) → not b ≡ false → b ≡ true
+is_on true e = refl
+is_on false e = absurd (false≢true (sym e))
+
+-- the first of some fields
+pub first_field : (item left : ℕ) (ms ns : List Member) (m : Member) → left ≡ 0 → 1 ≤ length ms → m ≡ get_or ms 0 m
+    → ns ≡ drop 1 ms → replicate left (item_part item) ++ map part_of_member ms
+    ≡ part_of_member m ∷ (replicate left (item_part item) ++ map part_of_member ns)
+first_field item left [] ns m none some is rest = absurd (omega (arith, some))
+first_field item left (x ∷ ms) ns m none some is rest =
+    ap (λ (n : ℕ). replicate n (item_part item) ++ map part_of_member (x ∷ ms)) none
+    ∙ ap (λ (y : Member). part_of_member y ∷ map part_of_member ms) (sym is)
+    ∙ ap (λ (l : List Member). part_of_member m ∷ map part_of_member l) (sym rest)
+    ∙ ap (λ (n : ℕ). part_of_member m ∷ (replicate n (item_part item) ++ map part_of_member ns)) (sym none)

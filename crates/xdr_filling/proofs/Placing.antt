@@ -1,6 +1,7 @@
 -- Bytes that are put into a slice, one behind the other.
 use Rattle.std.proofs.Common.{◌≡◌, ℕ, ◌+◌, ◌-◌, ◌%◌, ◌<◌, ◌≤◌, List, [], ◌∷◌, ◌++◌, length, take, drop, replicate}
-use Rattle.std.proofs.Common.{ap, sym, ◌∙◌, arith, append_assoc, length-drop}
+use Rattle.std.proofs.Common.{ap, sym, ◌∙◌, arith, append_assoc, append-nil, length-drop, refl, subst, Bool, true, false}
+use Rattle.std.proofs.Common.{nat_lt, ltb-true, ltb-false}
 use Rattle.std.proofs.lemmas.List.{length-append, length-take-le, take-append-le, take-take, take_at, drop_at}
 use Rattle.std.proofs.lemmas.List.{drop-append-le, drop-drop, drop-replicate, length-replicate}
 use Rattle.xdr_units.specs.Numbers.{pad, padded}
@@ -92,3 +93,21 @@ zeros_first old mid new bs at over unit is some here within f g =
     ∙ ap (λ (l : List ℕ). take at old ++ (bs ++ l)) rest
     ∙ ap (λ (l : List ℕ). take at old ++ l)
     (sym (append_assoc bs (pad (length bs)) (drop (at + length (padded bs)) old)))
+
+pub padded_put : (old mid new bs : List ℕ) (at : ℕ) → (length bs % 4 ≡ 0 → mid ≡ old)
+    → (0 < length bs % 4 → StandAt old mid (at + length bs - length bs % 4) (replicate 4 0))
+    → at + length (padded bs) ≤ length old → StandAt mid new at bs → StandAt old new at (padded bs)
+padded_put old mid new bs at whole cleared within put = by_case (nat_lt 0 (length bs % 4)) refl
+  where
+    by_case : (b : Bool) → nat_lt 0 (length bs % 4) ≡ b → StandAt old new at (padded bs)
+    by_case true e =
+        let some : 0 < length bs % 4 = ltb-true 0 (length bs % 4) e in
+        zeros_first old mid new bs at (length bs % 4) (at + length bs - length bs % 4) refl some (omega arith) within
+        (cleared some) put
+    by_case false e =
+        let none : length bs % 4 ≡ 0 = omega (arith, ltb-false 0 (length bs % 4) e) in
+        let gap_is : (4 - length bs % 4) % 4 ≡ 0 = omega (arith, none) in
+        let same : padded bs ≡ bs =
+        ap (λ (n : ℕ). bs ++ replicate n 0) gap_is ∙ append-nil bs in
+        subst (λ (x : List ℕ). StandAt old new at x) (sym same)
+        (subst (λ (x : List ℕ). StandAt x new at bs) (whole none) put)

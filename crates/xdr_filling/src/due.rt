@@ -90,6 +90,7 @@ pub(crate) fn fill<'s>(
 }
 
 /// What comes next: nothing, where all is filled, or a part of this kind. Else nothing is known.
+#[derive(Clone, Copy, Drop)]
 pub(crate) enum Due<'s> {
     Whole,
     Part(KindId, &'s Kind),
@@ -99,7 +100,7 @@ pub(crate) enum Due<'s> {
 /// Ends and opens nodes until a part comes next that an item fills, and takes it away. Nothing is known where its
 /// level is not allowed, or there are too many nodes before it.
 #[inline(always)]
-pub(crate) fn due<'s>(
+pub(crate) fn part_due<'s>(
     schema: &'s Schema,
     work: &mut Gap<'s>,
     around: &mut Stack<Gap<'s>>,

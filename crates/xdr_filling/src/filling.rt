@@ -3,7 +3,7 @@ ghost use Rattle.std.specs.Prelude.{◌≡◌, ℕ, List, [], ◌∷◌, ◌++�
 ghost use Rattle.xdr_writer.specs.Items.{ItemView, item_view};
 ghost use Rattle.xdr_filling.specs.Filled.{HasFilled, IsValue, spelled_bytes};
 
-use crate::due::{Due, due, fill};
+use crate::due::{Due, fill, part_due};
 use crate::gap::Gap;
 use crate::made::made_of;
 use crate::spelled::Spelled;
@@ -54,7 +54,7 @@ impl<'s> Filling<'s> {
             → HasFilled self.new place depth (is ++ item_view item.entry ∷ []) (bytes ++ spelled_bytes s))) }
         ensures schema { self.new.schema.now ≡ self.old.schema.now }
     {
-        let Due::Part(id, kind) = due(self.schema, &mut self.work, &mut self.around)? else {
+        let Due::Part(id, kind) = part_due(self.schema, &mut self.work, &mut self.around)? else {
             return Ok(None);
         };
         let Some(made) = made_of(self.schema, id, kind, item) else {
@@ -71,7 +71,7 @@ impl<'s> Filling<'s> {
         ensures whole { IfOk result (λ b. b ≡ true → (place depth : ℕ) (is : List ItemView) (bytes : List ℕ)
             → HasFilled self.old place depth is bytes → IsValue self.old.schema.now.kinds place depth is bytes) }
     {
-        match due(self.schema, &mut self.work, &mut self.around)? {
+        match part_due(self.schema, &mut self.work, &mut self.around)? {
             Due::Whole => Ok(true),
             _ => Ok(false),
         }

@@ -1,5 +1,5 @@
 //! Bytes put into a slice at a place.
-ghost use Rattle.std.specs.Prelude.{◌≡◌, ◌+◌, ◌-◌, ◌%◌, ◌≤◌, length, IfSome};
+ghost use Rattle.std.specs.Prelude.{◌≡◌, ◌+◌, ◌-◌, ◌%◌, ◌<◌, ◌≤◌, length, replicate, IfSome};
 ghost use Rattle.xdr_units.specs.Numbers.{padded};
 ghost use Rattle.xdr_filling.specs.Filled.{spelled_bytes};
 ghost use Rattle.xdr_filling.specs.Private.Placed.{StandAt};
@@ -15,16 +15,26 @@ pub(crate) fn put_at(bytes: &[u8], at: usize, out: &mut [u8])
     out[at..at + bytes.len()].copy_from_slice(bytes);
 }
 
+// Clears the unit in which so many bytes of content end behind others, where they do not fill it (RFC 4506 section 3).
+#[inline(always)]
+fn clear_end(count: usize, at: usize, out: &mut [u8])
+    requires { at + (count + (4 - count % 4) % 4) ≤ length out.old }
+    ensures whole { count % 4 ≡ 0 → out.new ≡ out.old }
+    ensures cleared { 0 < count % 4 → StandAt out.old out.new (at + count - count % 4) (replicate 4 0) }
+{
+    let over = count % 4;
+    if over > 0 {
+        put_at(&[0; 4], at + count - over, out);
+    }
+}
+
 // Puts content and the zeros that fill its last unit behind the first so many bytes (RFC 4506 section 3).
 #[inline(always)]
 fn put_padded(content: &[u8], at: usize, out: &mut [u8])
     requires { at + length (padded content.now) ≤ length out.old }
     ensures { StandAt out.old out.new at (padded content.now) }
 {
-    let over = content.len() % 4;
-    if over > 0 {
-        put_at(&[0; 4], at + content.len() - over, out);
-    }
+    clear_end(content.len(), at, out);
     put_at(content, at, out);
 }
 
@@ -72,9 +82,9 @@ fn padded_end(count: usize, at: usize, most: usize) -> Option<usize>
 
 /// Where the bytes of an item end behind so many others; none, where that is above the most.
 #[inline(always)]
-pub(crate) fn end_of(item: &Spelled<'_>, at: usize, most: usize) -> Option<usize>
+pub(crate) fn end_of(item: Spelled<'_>, at: usize, most: usize) -> Option<usize>
     requires { at ≤ most }
-    ensures { IfSome result (λ n. (n ≡ at + length (spelled_bytes item.now)) × (n ≤ most)) }
+    ensures { IfSome result (λ n. (n ≡ at + length (spelled_bytes item.entry)) × (n ≤ most)) }
 {
     match item {
         Spelled::Unit(_) => some_end(4, at, most),

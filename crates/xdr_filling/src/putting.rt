@@ -25,6 +25,7 @@ const MANY: usize = 64;
 
 // What was put of a part that comes next: a node without bytes of its own, or an item whose bytes end there. Else nothing
 // is known.
+#[derive(Clone, Copy)]
 pub(crate) enum Put {
     Silent,
     Item(usize),
@@ -47,7 +48,7 @@ fn put_made<'s>(
     let Some(made) = made else {
         return Ok(Put::Unknown);
     };
-    let Some(end) = end_of(&made.bytes, at, out.len()) else {
+    let Some(end) = end_of(made.bytes, at, out.len()) else {
         return Ok(Put::Unknown);
     };
     fill(work, around, made.inside)?;

@@ -1,5 +1,5 @@
 -- Bytes that are put into a slice at a place, and the items that have them.
-use Rattle.std.specs.Prelude.{◌≡◌, ◌+◌, ◌*◌, ◌≤◌, ◌<◌, ℕ, ℤ, List, [], ◌∷◌, ◌++◌, length, take, drop, get_or, ⊤, ⊥}
+use Rattle.std.specs.Prelude.{◌≡◌, ◌+◌, ◌*◌, ◌≤◌, ◌<◌, ℕ, ℤ, List, [], ◌∷◌, ◌++◌, length, take, drop, get_or, ⊤}
 use Rattle.std.specs.Prelude.{Option, Some, None}
 use Rattle.xdr_types.specs.Kinds.{KindView, Part, kind_at}
 use Rattle.xdr_writer.specs.Items.{ItemView, number}

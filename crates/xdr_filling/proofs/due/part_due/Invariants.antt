@@ -1,7 +1,7 @@
 use Rattle.std.proofs.Common.{[]}
 use Rattle.xdr_filling.specs.Holes.{Goes}
 use Rattle.xdr_filling.specs.Gaps.{holes_in}
-use Rattle.xdr_filling.proofs.due.due.Given as goal
+use Rattle.xdr_filling.proofs.due.part_due.Given as goal
 
 abbrev pub invariant-loop-left : goal.invariant-loop-left
 invariant-loop-left l =
