@@ -29,7 +29,7 @@ module _ (s : Lists) (well : IsWellFormed s) (place tag : ℕ) (arms : List Bran
       (subst (λ (k : KindView). has_illegal_case s.kinds k ≡ false) is
       (cases_legal s well place (known (nat_lt place (length s.kinds)) refl))) none picked
 
-default_in : KindView → Option Part
+abbrev default_in : KindView → Option Part
 default_in (xdr.choice tag arms other) = other
 default_in _ = None
 
