@@ -5,8 +5,11 @@
  * udp, and 'waits N' of the milliseconds that a socket's reads wait, 0 where they have no end.
  * Each name has the address 127.0.0.1. AT=PORT: whatever is connected to is at that port of 127.0.0.1, else at the port
  * that is asked for. Over TCP a free port of it is bound, and over UDP the one that is asked for. FROM=ADDRESS: who
- * connects, or sends a datagram, comes from there. OWN=ADDRESS: the own end of a socket for datagrams that was
- * connected. UNWATCHED=N: the Nth socket that is to be watched is not, since its user has as many watched as may be.
+ * connects, or sends a datagram, comes from there. OWN=ADDRESS: the own end of a socket that has a peer. UNKNOWN=CALL:
+ * that end is not found out, since this call fails: 'socket', 'bind' or 'connect' of a socket for datagrams behind the
+ * first one, or 'getsockname' of any that has a peer.
+ * ROOM=N: so many bytes of room has an accepted connection for what is sent, or as few as may be.
+ * UNWATCHED=N: the Nth socket that is to be watched is not, since its user has as many watched as may be.
  * UNACCEPTED=ERROR: the first connection that waits is not accepted at first, for this error, and waits on.
  * The clock stands still, but that a sleep ends at once, and it is so much later then. CLOCK=FILE: its milliseconds are
  * the eight bytes of that file, which others may change; a wait for events looks often. SILENT=1: nothing comes to a
@@ -22,6 +25,7 @@
 #include <stdarg.h>
 #include <stdio.h>
 #include <stdlib.h>
+#include <string.h>
 #include <sys/epoll.h>
 #include <sys/mman.h>
 #include <sys/socket.h>
@@ -39,7 +43,7 @@ enum { OFTEN = 5 };
 
 extern int accept4(int, struct sockaddr *restrict, socklen_t *restrict, int);
 
-static long waits, watched, unaccepted, own_moment, *moment;
+static long waits, watched, unaccepted, for_datagrams, own_moment, *moment;
 
 static void tell(const char *line, ...) {
     const char *file = getenv("ASKED");
@@ -82,8 +86,18 @@ int getaddrinfo(const char *name, const char *service, const struct addrinfo *hi
     return OWN(getaddrinfo)("127.0.0.1", service, hints, found);
 }
 
+/* Whether an own end is not found out, since this call fails with this error. */
+static int is_unknown(const char *call, int error) {
+    const char *failing = getenv("UNKNOWN");
+    if (!failing || strcmp(failing, call)) return 0;
+    errno = error;
+    return 1;
+}
+
 /* A socket for IPv6 is one for IPv4, since all of them are at 127.0.0.1. */
 int socket(int family, int kind, int protocol) {
+    int is_for_datagrams = (kind & ~(SOCK_CLOEXEC | SOCK_NONBLOCK)) == SOCK_DGRAM;
+    if (is_for_datagrams && ++for_datagrams > 1 && is_unknown("socket", EMFILE)) return -1;
     return OWN(socket)(family == AF_INET6 ? AF_INET : family, kind, protocol);
 }
 
@@ -112,13 +126,16 @@ int connect(int from, const struct sockaddr *to, socklen_t length) {
     const char *at = getenv("AT");
     struct sockaddr_in there = port_of_this_host(at ? atoi(at) : 0);
     if (!at) there.sin_port = ((const struct sockaddr_in *)to)->sin_port;
-    if (!is_told("connects", from, to)) return OWN(connect)(from, to, length);
+    int kind = is_told("connects", from, to);
+    if (!kind) return OWN(connect)(from, to, length);
+    if (kind == SOCK_DGRAM && is_unknown("connect", ENETUNREACH)) return -1;
     return OWN(connect)(from, (const struct sockaddr *)&there, sizeof there);
 }
 
 int bind(int it, const struct sockaddr *at, socklen_t length) {
     int kind = is_told("binds", it, at);
     if (!kind) return OWN(bind)(it, at, length);
+    if (for_datagrams > 1 && kind == SOCK_DGRAM && is_unknown("bind", EADDRNOTAVAIL)) return -1;
     struct sockaddr_in here = port_of_this_host(0);
     if (kind == SOCK_DGRAM) here.sin_port = ((const struct sockaddr_in *)at)->sin_port;
     return OWN(bind)(it, (const struct sockaddr *)&here, sizeof here);
@@ -137,7 +154,9 @@ static int is_unaccepted(int at) {
 int accept4(int at, struct sockaddr *restrict from, socklen_t *restrict length, int how) {
     if (is_unaccepted(at)) return -1;
     int made = OWN(accept4)(at, from, length, how);
-    const char *there = getenv("FROM");
+    const char *there = getenv("FROM"), *room = getenv("ROOM");
+    int bytes = room ? atoi(room) : 0;
+    if (made >= 0 && room) OWN(setsockopt)(made, SOL_SOCKET, SO_SNDBUF, &bytes, sizeof bytes);
     if (made >= 0 && there && from && from->sa_family == AF_INET)
         inet_pton(AF_INET, there, &((struct sockaddr_in *)from)->sin_addr);
     return made;
@@ -160,19 +179,16 @@ ssize_t sendto(int from, const void *what, size_t count, int how, const struct s
     return OWN(sendto)(from, what, count, how, (const struct sockaddr *)&here, sizeof here);
 }
 
-/* The own end of a socket for datagrams that was connected is OWN, as the system had it. */
+/* The own end of a socket that has a peer is OWN, as if the system had it so. */
 int getsockname(int of, struct sockaddr *restrict end, socklen_t *restrict length) {
     int told = OWN(getsockname)(of, end, length);
     const char *own = getenv("OWN");
-    int kind = 0;
-    socklen_t size = sizeof kind;
     struct sockaddr_in peer;
     socklen_t room = sizeof peer;
-    if (told || !own || end->sa_family != AF_INET) return told;
-    getsockopt(of, SOL_SOCKET, SO_TYPE, &kind, &size);
-    if (kind == SOCK_DGRAM && getpeername(of, (struct sockaddr *)&peer, &room) == 0)
-        inet_pton(AF_INET, own, &((struct sockaddr_in *)end)->sin_addr);
-    return told;
+    if (told || end->sa_family != AF_INET || getpeername(of, (struct sockaddr *)&peer, &room) != 0) return told;
+    if (is_unknown("getsockname", ENOBUFS)) return -1;
+    if (own) inet_pton(AF_INET, own, &((struct sockaddr_in *)end)->sin_addr);
+    return 0;
 }
 
 int epoll_ctl(int poll, int what, int of, struct epoll_event *event) {

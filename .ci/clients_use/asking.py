@@ -26,10 +26,11 @@ def told(name, got, wanted, of):
 
 
 class Caller:
-    """Calls procedures of a program by its declarations, and reads their results as JSON."""
+    """Calls procedures of a program by its declarations, or by those that the program finds where none are named, and
+    reads their results as JSON."""
 
     def __init__(self, program, declarations, *more):
-        self.program, self.words = program, ["--types", declarations, *more]
+        self.program, self.words = program, [*(["--types", declarations] if declarations else []), *more]
 
     def ask(self, procedure, *more, given=None):
         """The status and both streams. Arguments are given as a value of Python."""

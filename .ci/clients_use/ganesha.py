@@ -1,6 +1,6 @@
 """Rows of 'oncrpc call' and 'oncrpc ping' on Debian's nfs-ganesha, by the installed declarations, beside what showmount
 and libnfs's nfs-ls and nfs-cat say of it. It serves a folder in memory, by NFS versions 3 and 4 and mount versions 1
-and 3.
+and 3, and another one to few hosts, which is listed alone.
 """
 import os
 import re
@@ -8,21 +8,30 @@ import shutil
 import subprocess
 
 from clients_use.asking import HOST, Caller, ask, has_answered, rows_of, told
+from refuse_use.called import placed_program
 from telling import tell
 from timing import WAIT, wait_until
 
+# How many bytes a READ, a WRITE and a READDIR may have, and are best to have: all of them differ.
+SIZES = {"rtmax": 131072, "rtpref": 65536, "wtmax": 98304, "wtpref": 32768, "dtpref": 8192}
 SETTINGS = """NFS_CORE_PARAM {
     NFS_Protocols = 3, 4; mount_path_pseudo = true; Enable_NLM = false; Enable_RQUOTA = false;
     NFS_Port = 20490; MNT_Port = 20480;
 }
 EXPORT {
     Export_Id = 1; Path = /exp; Pseudo = /exp; Access_Type = RW; Squash = No_Root_Squash;
+    MaxRead = %(rtmax)d; PrefRead = %(rtpref)d; MaxWrite = %(wtmax)d; PrefWrite = %(wtpref)d; PrefReaddir = %(dtpref)d;
     Protocols = 3, 4; Transports = TCP, UDP; FSAL { Name = MEM; }
+}
+EXPORT {
+    Export_Id = 2; Path = /other; Pseudo = /other; Access_Type = NONE;
+    Protocols = 3, 4; Transports = TCP, UDP; FSAL { Name = MEM; }
+    CLIENT { Clients = 127.0.0.1, 192.0.2.0/24; Access_Type = RO; }
 }
 MEM { Inode_Size = 65536; }
 LOG { Default_Log_Level = EVENT; }
-"""
-FOLDER = f"nfs://{HOST}/exp"
+""" % SIZES
+FOLDER, ABOVE = f"nfs://{HOST}/exp", f"nfs://{HOST}/?version=4&nfsport=20490"
 ROOT_USER = ["--uid", "0", "--gid", "0", "--machine", "box"]
 TEXT = b"a file of eleven words, each of which nfs-cat has to print\n"
 WRITTEN = b"what WRITE put in its place"
@@ -74,16 +83,32 @@ def pinged_rows(program, root, over):
         yield has_answered(f"oncrpc ping ganesha {name} {' '.join(over)}", got, f"{line} answered in ")
 
 
-def exported_rows(mount, over):
-    """EXPORT and DUMP, beside showmount."""
-    entry, found = mount.result("mount.3.EXPORT", *over), []
+def exports_of(entry):
+    """The words that showmount prints of each export, and what ends the list."""
+    found = []
     while isinstance(entry, dict):
-        found.append(entry["ex_dir"])
+        names, group = [], entry["ex_groups"]
+        while group:
+            names.append(group["gr_name"])
+            group = group["gr_next"]
+        found.append([entry["ex_dir"], ",".join(names) or "(everyone)"])
         entry = entry["ex_next"]
-    wanted = [line.split()[0] for line in ask(["showmount", "-e", HOST])[1].splitlines()[1:]]
-    yield told(f"oncrpc call ganesha mount.3.EXPORT {' '.join(over)}", (entry, found), (None, wanted), "showmount -e")
-    numbers = mount.ask("100005.1.5", *over, "--hex")
-    yield told("oncrpc call ganesha 100005.1.5", numbers[0], 0, "RFC 1094")
+    return found, entry
+
+
+def exported_rows(mount, by_itself, over):
+    """EXPORT of both versions and DUMP, beside showmount; EXPORT also by the installed declarations that no word names."""
+    wanted = [line.split() for line in ask(["showmount", "-e", HOST])[1].splitlines()[1:]]
+    for caller, name in (
+        (mount, "mount.3.EXPORT"),
+        (mount, "mount.V1.EXPORT"),
+        (mount, "100005.1.5"),
+        (by_itself, "mount.3.EXPORT"),
+        (by_itself, "100005.1.5"),
+    ):
+        got = *exports_of(caller.result(name, *over)), len(wanted)
+        types = " without --types" * (caller == by_itself)
+        yield told(f"oncrpc call ganesha {name} {' '.join(over)}{types}", got, (wanted, None, 2), "showmount -e")
     entry, found = mount.result("mount.V3.DUMP", *over), []
     while isinstance(entry, dict):
         found.append(f"{entry['ml_hostname']}:{entry['ml_directory']}")
@@ -120,14 +145,24 @@ def lines_of_nfs_ls():
     return sorted(line.split() for line in ask(["nfs-ls", FOLDER])[1].splitlines())
 
 
-def folder_rows(nfs, handle, over):
-    """FSINFO, GETATTR, LOOKUP and READDIRPLUS of the folder, beside nfs-ls."""
+def root_rows(nfs, handle, over):
+    """FSINFO, beside the settings, and GETATTR of the folder, beside FSINFO and what nfs-ls lists above it by version 4,
+    where ids are names that this host does not have."""
     got = nfs.result("nfs.V3.FSINFO", *ROOT_USER, *over, given={"fsroot": {"data": handle}})
-    well = got["case"] == "NFS3_OK" and got["resok"]["rtmax"] > 0
-    yield tell(f"oncrpc call ganesha nfs.V3.FSINFO {' '.join(over)}", well, got, "a value")
-    got = nfs.result("nfs.V3.GETATTR", *ROOT_USER, *over, given={"object": {"data": handle}})
-    found = got["resok"]["obj_attributes"]["type"]
-    yield told(f"oncrpc call ganesha GETATTR of the folder {' '.join(over)}", found, "NF3DIR", "RFC 1813")
+    found = {it: got["resok"][it] for it in SIZES}
+    yield told(f"oncrpc call ganesha nfs.V3.FSINFO {' '.join(over)}", (got["case"], found), ("NFS3_OK", SIZES), "settings")
+    known = nfs.result("nfs.V3.GETATTR", *ROOT_USER, *over, given={"object": {"data": handle}})["resok"]
+    there = {"case": True, "attributes": known["obj_attributes"]}
+    name = f"oncrpc call ganesha GETATTR of the folder {' '.join(over)}"
+    yield told(f"{name}, beside FSINFO", there, got["resok"]["obj_attributes"], "FSINFO")
+    mode, links, _, _, *rest = listed(known["obj_attributes"], "exp")
+    lines = [line.split() for line in ask(["nfs-ls", ABOVE])[1].splitlines()]
+    wanted = [[line[0], line[1], *line[4:]] for line in lines if line[-1] == "exp"]
+    yield told(name, [[mode, links, *rest]], wanted, "nfs-ls")
+
+
+def folder_rows(nfs, handle, over):
+    """LOOKUP, GETATTR and READDIRPLUS of the folder, beside nfs-ls."""
     wanted = lines_of_nfs_ls()
     asked = {"dir": {"data": handle}, "cookie": "0", "cookieverf": "00" * 8, "dircount": 4096, "maxcount": 32768}
     got = nfs.result("nfs.3.READDIRPLUS", *ROOT_USER, *over, given=asked)
@@ -173,13 +208,15 @@ def ganesha_rows(program, root, folder):
     with Ganesha(folder):
         mount = Caller(program, f"{root}/share/oncrpc/mount.x")
         nfs = Caller(program, f"{root}/share/oncrpc/nfs.x")
+        by_itself = Caller(placed_program(program, folder), None)
         for over in ([], ["--udp"]):
             for name in ("a.txt", "b.txt"):
                 ask(["nfs-cp", f"{folder}/a.txt", f"{FOLDER}/{name}"])
             yield from pinged_rows(program, root, over)
-            yield from exported_rows(mount, over)
+            yield from exported_rows(mount, by_itself, over)
             yield from unmounted_rows(mount, over)
             handle, got = mounted(mount, "/exp", over)
             yield tell(f"oncrpc call ganesha mount.V3.MNT {' '.join(over)}", handle, got, "a handle")
+            yield from root_rows(nfs, handle, over)
             yield from folder_rows(nfs, handle, over)
             yield from file_rows(nfs, handle, over)

@@ -7,12 +7,27 @@ from telling import tell
 
 
 def port_rows(program, root, whose, over):
-    """GETPORT by names, GETADDR by numbers: of each row of the registry the port, and the address, of rpcinfo."""
+    """GETPORT by names: of each row of the registry the port of rpcinfo."""
     call = Caller(program, f"{root}/share/oncrpc/rpcbind.x", *over)
     for prog, vers, prot, port, *_ in rows_of(["rpcinfo", "-p", HOST]):
         asked = {"prog": int(prog), "vers": int(vers), "prot": {"tcp": 6, "udp": 17}[prot], "port": 0}
         got = call.ask("rpcbind.V2.GETPORT", given=asked)
         yield told(f"oncrpc call {whose} {asked} {' '.join(over)}", got, (0, f"{port}\n", ""), "rpcinfo")
+
+
+def address_rows(program, root, whose, over):
+    """GETADDR of versions 3 and 4 by numbers: of each row over this transport the address of rpcinfo, but that of this
+    host where it is any; and of a program that has no row none."""
+    call = Caller(program, f"{root}/share/oncrpc/rpcbind.x", *over)
+    netid = "udp" if over else "tcp"
+    rows = [(prog, vers, at) for prog, vers, on, at, *_ in rows_of(["rpcinfo", HOST]) if on == netid]
+    for prog, vers, at in [*rows, ("300000", "1", "")]:
+        asked = {"r_prog": int(prog), "r_vers": int(vers), "r_netid": netid, "r_addr": "", "r_owner": ""}
+        wanted = re.sub(r"^0\.0\.0\.0\.", f"{HOST}.", at)
+        for version in ("3", "4"):
+            got = call.ask(f"100000.{version}.3", given=asked)
+            name = f"oncrpc call {whose} 100000.{version}.3 of {prog} {vers} {' '.join(over)}"
+            yield told(name, (got, len(rows) > 2), ((0, f'"{wanted}"\n', ""), True), "rpcinfo")
 
 
 def dump_rows(program, root, whose, over):
@@ -61,7 +76,7 @@ def pinged_rows(program, whose, over):
 def registry_rows(program, root, whose):
     """The rows, over TCP and over UDP."""
     for over in ([], ["--udp"]):
-        for rows in (port_rows, dump_rows, refused_rows):
+        for rows in (port_rows, address_rows, dump_rows, refused_rows):
             yield from rows(program, root, whose, over)
         yield from pinged_rows(program, whose, over)
 

@@ -64,6 +64,8 @@ class Server:
     def serve(self, made):
         with contextlib.suppress(OSError), made:
             made.settimeout(WAIT)
+            # (a piece is sent by itself, whatever the client has taken of those before)
+            made.setsockopt(socket.IPPROTO_TCP, socket.TCP_NODELAY, 1)
             message = self.record(made)
             if message is None:
                 return

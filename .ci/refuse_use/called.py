@@ -4,10 +4,12 @@ Expected bytes are those of RFC 5531 sections 8, 9 and 11 and of its appendix A,
 """
 import os
 import re
+import shutil
 import struct
 import subprocess
 import time
 
+ROOT = os.path.dirname(os.path.dirname(os.path.dirname(os.path.realpath(__file__))))
 HOST = "127.0.0.1"
 # The seconds after which a run is ended, and those that an answer may take which is to come: less than these, and more
 # than those within which a run is to end (SOON of timing.py).
@@ -232,6 +234,15 @@ def run(program, folder, line, given=b"", **variables):
     except subprocess.TimeoutExpired as cut:
         return (None, cut.stdout, cut.stderr), time.monotonic() - began
     return (ended.returncode, ended.stdout, ended.stderr), time.monotonic() - began
+
+
+def placed_program(program, folder):
+    """A copy of the program in a folder, beside the installed declarations, which it finds there by their names."""
+    if not os.path.exists(f"{folder}/placed"):
+        os.makedirs(f"{folder}/placed/bin")
+        shutil.copy(program, f"{folder}/placed/bin/oncrpc")
+        shutil.copytree(f"{ROOT}/share/oncrpc", f"{folder}/placed/share/oncrpc")
+    return f"{folder}/placed/bin/oncrpc"
 
 
 def call_words(port, more):

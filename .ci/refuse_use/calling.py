@@ -26,16 +26,14 @@ from refuse_use.answering import (
     straying,
     trickle,
 )
-from refuse_use.called import ASKED, DECLARED, LIMIT, LONG, NOBODY, ONE_PING, PINGED, UNASKED, XID
+from refuse_use.call_pieces import hindered_pings, pieces_rows
+from refuse_use.call_recorded import recorded_rows, unnamed_rows
+from refuse_use.called import ASKED, DECLARED, LIMIT, LONG, ONE_PING, PINGED, UNASKED, XID
 from refuse_use.called import call, call_words, opaque, run, success, words
-from refuse_use.recorded import GENERATED, RECORDED, SERVED
-from refuse_use.refusing import placed_rows, refused_pings, refused_rows
+from refuse_use.refusing import placed_rows, refused_pings, refused_recorded, refused_rows
 from telling import tell
 from timing import SOON, WAIT, in_time
 
-ROOT = os.path.dirname(os.path.dirname(os.path.dirname(os.path.realpath(__file__))))
-# The programs whose declarations are installed, and that of rpcgen's server.
-NUMBERS = {"rpcbind": 100000, "nfs": 100003, "mount": 100005, "nlm": 100021, "nsm": 100024, "filed": 536870914}
 NO_ANSWER = b"no answer within 2 seconds\n"
 # What a server does, by what, the status, and what is said.
 HINDERED = [
@@ -262,36 +260,14 @@ def pinged_thrice(program, folder):
     return len(ONE_PING.findall(got[1])) == 3 and got[0] == 0 and 1.9 <= took <= 5, (got, took)
 
 
-def recorded_rows(program, folder):
-    """What was recorded of real servers, called again by the installed declarations: the arguments as JSON spell what
-    was sent, and the results are a value to their last byte, which is printed."""
-    for (name, version, procedure), digits, results in RECORDED + GENERATED + SERVED:
-        types = ["--types", declarations_of(name)]
-        at = f"{NUMBERS[name]}.{version}.{procedure}"
-        arguments, given = bytes.fromhex(digits), []
-        if arguments:
-            shown = run(program, folder, ["show", "--json", "--hex", "--name", f"{at}.1", *types], digits.encode())[0]
-            given = ["--arguments", shown[1].decode().rstrip("\n")]
-        sent = words(XID, 0, 2, NUMBERS[name], version, procedure) + NOBODY + NOBODY + arguments
-        with Server(replying(success(bytes.fromhex(results)))) as server:
-            got, _ = run(program, folder, call_words(server.port, [at, "--hex", *given, *types]))
-        well = got == (0, results.encode() + b"\n", b"") and server.calls == [sent]
-        yield f"{at} as recorded", well, (got, [it.hex() for it in server.calls])
-
-
-def declarations_of(name):
-    """The text that declares a recorded program."""
-    return f"{ROOT}/.ci/clients_use/filed.x" if name == "filed" else f"{ROOT}/share/oncrpc/{name}.x"
-
-
 def call_rows(program, folder, heap):
     """The rows, each whether it is as it should be."""
     with open(f"{folder}/asked.x", "wb") as it:
         it.write(DECLARED)
     by_themselves = (asked_rows, unasked_rows, longest_rows, hindered_rows, unread_rows, info_rows, ping_rows)
-    for rows in (*by_themselves, recorded_rows):
+    for rows in (*by_themselves, hindered_pings, pieces_rows, recorded_rows, unnamed_rows):
         for name, is_well, told in rows(program, folder):
             yield tell(f"oncrpc call, {name}", is_well, told)
-    for rows in (early_rows, refused_rows, refused_pings, placed_rows) if heap else ():
+    for rows in (early_rows, refused_rows, refused_pings, refused_recorded, placed_rows) if heap else ():
         for name, is_well, told in rows(program, folder, heap):
             yield tell(f"oncrpc call, {name}", is_well, told)

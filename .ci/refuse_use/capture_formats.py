@@ -89,6 +89,8 @@ FILES = [
     ("seconds", "", timed(resolved(0), END), 0, seen(1, b"8589934597.000000000", TO + GETPORT_LINES) + ONE),
     ("microseconds", "", timed(), 0, seen(1, b"8589.934597000", TO + GETPORT_LINES) + ONE),
     ("nanoseconds of an interface", "", timed(resolved(9)), 0, seen(1, b"8.589934597", TO + GETPORT_LINES) + ONE),
+    ("an offset of times, which is passed over", "", timed(option("<", 14, struct.pack("<q", 60)), END), 0,
+     seen(1, b"8589.934597000", TO + GETPORT_LINES) + ONE),
     ("picoseconds", "", timed(resolved(12), END), 0, seen(1, b"0.008589934", TO + GETPORT_LINES) + ONE),
     ("halves of a second, 33 times", "", timed(resolved(128 + 33)), 0, seen(1, b"1.000000000", TO + GETPORT_LINES) + ONE),
     ("halves of a second, once", "", timed(resolved(129)), 0, seen(1, b"4294967298.500000000", TO + GETPORT_LINES) + ONE),

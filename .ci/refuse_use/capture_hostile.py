@@ -10,14 +10,13 @@ import resource
 import select
 import struct
 import subprocess
-import sys
-import tempfile
 
 from refuse_use.capture_connections import CONNECTIONS
 from refuse_use.capture_formats import ASKED, FORMATS, PAIR
 from refuse_use.capture_made import FROM, GETPORT, GETPORT_LINES, PORT, PORT_LINES, SYN, SYN_ACK, SYN_BIT, TO, at, null, null_line
 from refuse_use.capture_made import of_client, of_server
-from refuse_use.messages_streams import RPCBIND, call, counts, fragment
+from refuse_use.capture_memory import memory_rows
+from refuse_use.messages_streams import RPCBIND, counts, fragment
 from refuse_use.packets import block, classic, datagram, enhanced, interface, pcapng, section, simple
 from telling import tell
 from timing import LIMIT, WAIT
@@ -176,67 +175,6 @@ def talks():
     return "one pair over UDP too many", "", classic(calls + replies, 101), 0, wanted + counts(PAIRS + 1, 1, 0, 0, 0, 0)
 
 
-# ---- memory
-
-def recorded(packet):
-    return struct.pack("<IIII", 1, 0, len(packet), len(packet)) + packet
-
-
-def hoarders(count, size):
-    """So many connections, each of which holds twice so many bytes behind a hole, and a call of another one."""
-    yield classic([])
-    for port in range(1000, 1000 + count):
-        yield recorded(of_client(99, b"", SYN_BIT, port))
-        yield recorded(of_client(200, bytes(size), 16, port)) + recorded(of_client(200 + size, bytes(size), 16, port))
-    yield recorded(SYN) + recorded(of_client(100, null(7)))
-
-
-def long_records(count, size):
-    """So many connections, each with a call behind which so many zeros stand in its record."""
-    content, most = fragment(call(7, 100000, 2, 0, bytes(size))), 60000
-    yield classic([])
-    for port in range(1000, 1000 + count):
-        yield recorded(of_client(99, b"", SYN_BIT, port))
-        for place in range(0, len(content), most):
-            yield recorded(of_client(100 + place, content[place : place + most], 16, port))
-
-
-# What rows are about, words, the pieces of the file, the status, the last line, and the most MiB of memory.
-LARGE = [
-    ("4000 connections that hold 80,000 bytes each", "--port 111", hoarders(4000, 40000), 0, counts(1, 0, 0, 0, 0, 0), 330),
-    ("40 connections with a record of 8 MiB each", "", long_records(40, 8 << 20), 1, counts(40, 0, 0, 40, 0, 0), 64),
-]
-
-
-# Runs words, and writes into a file the most memory that the run had, in KiB. What this process has itself counts for a
-# run that it begins, and is less than what is allowed.
-MEASURE = """
-import resource, subprocess, sys
-status = subprocess.run(sys.argv[2:]).returncode
-with open(sys.argv[1], "w") as it:
-    it.write(str(resource.getrusage(resource.RUSAGE_CHILDREN).ru_maxrss))
-sys.exit(status)
-"""
-
-
-def large(program, room):
-    for what, options, pieces, status, wanted, most in LARGE:
-        line = [program, "capture", "-", *options.split(), *RPCBIND.split()]
-        with tempfile.TemporaryFile() as output:
-            words = [sys.executable, "-c", MEASURE, f"{room}/memory", *line]
-            run = subprocess.Popen(words, stdin=subprocess.PIPE, stdout=output)
-            with run.stdin as given:
-                for it in pieces:
-                    given.write(it)
-            run.wait(LIMIT)
-            output.seek(0)
-            printed = output.read().splitlines(keepends=True)
-        with open(f"{room}/memory", encoding="ascii") as it:
-            memory = int(it.read()) >> 10
-        well = (run.returncode, printed[-1:]) == (status, [wanted]) and memory <= most
-        yield tell(f"capture, {what}", well, (memory, run.returncode, printed[-3:]), f"{memory} MiB")
-
-
 # ---- bytes at random
 
 def changed(files, chance):
@@ -302,8 +240,7 @@ def hostile_rows(program, row):
     for it in [*FILES, held(), many_holes(), forgotten(), talks()]:
         yield row(*it)
     yield from cut_rows(program)
-    with tempfile.TemporaryDirectory() as room:
-        yield from large(program, room)
+    yield from memory_rows(program)
     bad = at_random(program, RANDOM)
     yield tell(f"capture of {RANDOM} random files", not bad, (len(bad), bad[:3]))
     yield tell("capture, a message as soon as it is whole", as_it_comes(program), "late, or another one")

@@ -7,7 +7,9 @@ import subprocess
 import tempfile
 
 from refuse_use.capture_connections import ANSWERS, CONNECTIONS, HOLES
+from refuse_use.capture_counts import counted_rows
 from refuse_use.capture_formats import FORMATS, PAIR
+from refuse_use.capture_found import found_rows
 from refuse_use.capture_further import FURTHER
 from refuse_use.capture_hostile import hostile_rows
 from refuse_use.capture_made import GETPORT, SYN, SYN_ACK, null, of_client, of_server, void
@@ -203,6 +205,8 @@ def capture_rows(program, folder, heap):
     sweep, swept = Sweep(program, folder, heap, ("capture", "-")), {it[0] for it in ANSWERS + HOLES + OTHERS}
     for it in CONNECTIONS + FORMATS + OTHERS + FURTHER:
         yield row_of(sweep, it[0] in swept)(*it)
+    yield from counted_rows(folder, row_of(sweep, False))
+    yield from found_rows(program)
     with tempfile.TemporaryDirectory() as room:
         said = named(placed(room))
         yield tell("capture of tests/captures/libnfs.pcap", not said, said, "as tshark names it")

@@ -26,6 +26,8 @@ from telling import tell
 from timing import SOON, WAIT, in_time
 
 HOST = "127.0.0.1"
+# How many growths are refused behind the line that says where it listens.
+BEHIND = 30
 FIRST = re.compile(rb"listening on 127\.0\.0\.1 (\d+)\n")
 
 
@@ -396,10 +398,22 @@ def unheard(program, heap):
         yield "a wait that fails", well, (status, printed, faults)
 
 
+def first_growth(program, heap, *words):
+    """The first growth behind the line that says where it listens: where that one and all later are refused it
+    listens."""
+    before, first = 0, 4096
+    while first - before > 1:
+        number = (before + first) // 2
+        with Kept(program, *words, LD_PRELOAD=heap, REFUSE_GROWTH=f"{number}..") as kept:
+            before, first = (before, number) if kept.port else (number, first)
+    return first
+
+
 def growths(program, heap):
-    """With each growth refused: it ends before it listens, or answers all but what that growth was for."""
+    """With each growth refused, alone and with all later ones: it ends before it listens, or answers all but what that
+    growth was for. Without all later ones that may be all, and it goes on, and answers a datagram as it can."""
     wrong, listened = [], 0
-    for number in range(1, 200):
+    for number in range(1, first_growth(program, heap, "--verbose") + BEHIND):
         for refused in (str(number), f"{number}.."):
             with Kept(program, "--verbose", LD_PRELOAD=heap, REFUSE_GROWTH=refused) as kept:
                 if not kept.port:
@@ -410,17 +424,23 @@ def growths(program, heap):
                 listened += 1
                 got = [answered(kept) for _ in range(4)]
                 said = kept.asked(call(7))
-                # One growth is one client's. Where all are refused it goes on, and answers a datagram as it can.
                 hit = sum(it != whole(kept.port) for it in got) + (said != replied(7))
-                if hit > (5 if ".." in refused else 1) or said not in (replied(7), no_answer(7)):
+                is_one = hit <= 1 or ".." in refused
+                if not is_one or said not in (replied(7), no_answer(7)) or kept.process.poll() is not None:
                     wrong.append((refused, got, said))
-    yield f"each growth refused, {listened} times behind the first line", not wrong, wrong[:3]
+    is_well = not wrong and listened >= 2 * BEHIND
+    yield f"each growth refused, {listened} times behind the first line", is_well, wrong[:3]
+
+
+def listed(xid, port):
+    """What a client gets for a call of DUMP of a registry that has its own rows alone."""
+    rows = [word for version in (2, 3, 4) for protocol in (6, 17) for word in (1, 100000, version, protocol, port)]
+    return marked(replied(xid, *rows, 0))
 
 
 def whole(port):
-    """What a client gets for a call of NULL and one of DUMP, of a registry that has its own rows alone."""
-    rows = [word for version in (2, 3, 4) for protocol in (6, 17) for word in (1, 100000, version, protocol, port)]
-    return marked(replied(5)) + marked(replied(6, *rows, 0))
+    """What it gets for a call of NULL and that one."""
+    return marked(replied(5)) + listed(6, port)
 
 
 def answered(kept):

@@ -21,7 +21,7 @@ import time
 sys.dont_write_bytecode = True
 sys.path.insert(0, os.path.dirname(os.path.dirname(os.path.realpath(__file__))))
 
-from refuse_use.keeping import HOST, Kept, call, is_answered, marked, read, replied
+from refuse_use.keeping import BEHIND, HOST, Kept, call, first_growth, is_answered, marked, read, replied
 from refuse_use.ports import over_udp_alone
 from telling import tell
 from timing import WAIT
@@ -256,7 +256,7 @@ def forbidden(program, folder):
 def growths(program, heap, folder):
     """With each growth refused it ends before it listens and leaves nothing, or it answers."""
     path, wrong, listened = f"{folder}/socket", [], 0
-    for number in range(1, 60):
+    for number in range(1, first_growth(program, heap, "--local", path) + BEHIND):
         with Kept(program, "--local", path, LD_PRELOAD=heap, REFUSE_GROWTH=str(number)) as kept:
             second = second_line(kept) if kept.port else b""
             if not second:
@@ -271,7 +271,8 @@ def growths(program, heap, folder):
         kept.process.wait()
         if [it for it in os.listdir(folder) if it != "socket"]:
             wrong.append((number, os.listdir(folder)))
-    yield f"each growth refused, {listened} times behind the lines", not wrong, wrong[:3]
+    is_well = not wrong and listened >= BEHIND // 2
+    yield f"each growth refused, {listened} times behind the lines", is_well, wrong[:3]
 
 
 def local_rows(program, heap):

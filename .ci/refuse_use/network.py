@@ -9,6 +9,7 @@ import socket
 import struct
 import subprocess
 import tempfile
+import time
 
 from refuse_use.answering import Server
 from refuse_use.called import HOST, marked, opaque, run, success, words
@@ -18,6 +19,7 @@ from refuse_use.network_called import called_rows
 from refuse_use.network_files import allow_files, warning
 from refuse_use.network_info import info_rows
 from refuse_use.network_running import Clock, Network, Running, port_in
+from refuse_use.turns import LONG_ROWS, listed, set_all
 from telling import tell
 from timing import WAIT, wait_until
 
@@ -29,6 +31,9 @@ ROW = (0x20000000, 1, 6, 2049)
 TOO_WEAK, DONE = struct.pack(">5I", 7, 1, 1, 1, 5), replied(7, 1)
 # The registry's call for an address in version 4, and the address that it tells, of port 2049.
 GETADDR, AT_2049 = words(100000, 4, 3), opaque(b"127.0.0.1.8.1")
+# The seconds after which a client is idle that takes a long reply, and how many bytes of it are taken at first: more
+# than the system keeps of a connection whose ends have little room.
+IDLE, FIRST = 5, 8000
 # The clients at once of a registry that may have more, and the seconds in which one has not answered that is to wait.
 MANY, WAITED = 1100, 0.2
 
@@ -167,6 +172,34 @@ def is_local(folder, row, it):
         return is_answered(made, 3)
 
 
+def taken_at(made, clock, seconds, count):
+    """So many bytes that a client takes at a time of the clock, which has been seen by then."""
+    clock.set(seconds)
+    time.sleep(WAITED)
+    return read(made, count)
+
+
+def taking_row(program, folder, sockets):
+    """A client that takes bytes of a reply is not idle, though it sends nothing; it is once it has taken none for so
+    many seconds."""
+    network, clock = Network(sockets, folder), Clock(folder)
+    line = ["serve", "--port", "0", "--idle", str(IDLE)]
+    with Running(program, folder, line, **network.variables, CLOCK=clock.file, ROOM="1") as it, socket.socket() as made:
+        port = port_in(it.lines(1))
+        with socket.create_connection((HOST, port), WAIT) as other:
+            well = set_all(other, LONG_ROWS)
+        made.settimeout(WAIT)
+        made.setsockopt(socket.SOL_SOCKET, socket.SO_RCVBUF, 1)
+        made.connect((HOST, port))
+        made.sendall(marked(call(2, 4)))
+        made.recv(1, socket.MSG_PEEK)
+        wanted = marked(listed(2, port, LONG_ROWS))
+        got = taken_at(made, clock, IDLE, FIRST)
+        got += taken_at(made, clock, 2 * IDLE, len(wanted) - FIRST)
+        idle = is_idle_after(made, clock, 3 * IDLE)
+    return well and got == wanted and idle, (well, len(got), got == wanted, idle)
+
+
 # The last line of a registry that says what became of connections, once the last of these was idle too long.
 LAST_IDLE = re.compile(rb"^connection \d+ from 10\.9\.8\.7:\d+: Idle\n\Z", re.M)
 
@@ -209,6 +242,7 @@ def rows():
         yield counted_row, " ".join(row[0]), [row]
     for row in KEPT:
         yield kept_row, " ".join(row.line), [row]
+    yield taking_row, "serve --idle, a client that takes a long reply slowly", []
     yield from called_rows()
 
 

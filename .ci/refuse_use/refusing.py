@@ -1,13 +1,15 @@
 """Rows of 'oncrpc call', 'oncrpc ping' and 'oncrpc info' with each growth of memory, each read and each write refused
 in turn, by .ci/heap.c."""
-import os
 import re
-import shutil
 
 from refuse_use.answering import Server, replying
-from refuse_use.called import ASKED, HOST, LONG, PINGED, UNASKED, XID, call_words, run, success, words
+from refuse_use.call_recorded import NUMBERS, declarations_of
+from refuse_use.called import ASKED, HOST, LONG, PINGED, UNASKED, XID, call_words, placed_program, run
+from refuse_use.called import success, words
+from refuse_use.recorded_json import exchanges
 
-ROOT = os.path.dirname(os.path.dirname(os.path.dirname(os.path.realpath(__file__))))
+# READDIRPLUS, and DUMP of the registry.
+SWEPT = [("nfs", 3, 17), ("rpcbind", 4, 4)]
 
 
 def counted(program, folder, line, given, heap, variable):
@@ -92,7 +94,7 @@ def refused_pings(program, folder, heap):
     """The same of a ping, and of 'info' with a time."""
     later = first_growth(program, folder, heap, ["ping", HOST, "ASKED.FIRST", "--port", "1"])
     for over in ([], ["--udp"]):
-        lines = [(["ping", HOST, *more], reply, status) for more, reply, status, _, _ in PINGED[1:6:2]]
+        lines = [(["ping", HOST, *more], reply, status) for more, reply, status, _, _ in PINGED]
         lines.append((["info", HOST], success(words(0), xid=1), 0))
         for words_of_it, reply, status in lines:
             with Server(replying(reply)) as server:
@@ -103,15 +105,29 @@ def refused_pings(program, folder, heap):
             yield name, got[0] == status and not bad, (got, bad[:3])
 
 
+def refused_recorded(program, folder, heap):
+    """The same of two calls that were recorded, with long arguments and a long result: lists of structures and unions."""
+    for (name, version, procedure), arguments, given, results, said in exchanges():
+        if (name, version, procedure) not in SWEPT:
+            continue
+        types, numbers = ["--types", declarations_of(name)], (NUMBERS[name], version, procedure)
+        at = ".".join(map(str, numbers))
+        limits = ["call", HOST, at, *types, "--bytes", "6", "--port", "1", "--xid", str(XID)]
+        later = first_growth(program, folder, heap, limits)
+        with Server(replying(success(results))) as server:
+            line = call_words(server.port, [at, *types, *(["--arguments", given] if given else [])])
+            got, counts, bad = swept(program, folder, heap, line, begin=later)
+        well = got == (0, f"{said}\n".encode(), b"") and not bad and counts[0] > later and counts[1] > 1
+        yield f"{at} as recorded, {counts} growths, reads and writes refused", well, (got, bad[:3])
+
+
 def placed_rows(program, folder, heap):
     """The same of an installed text that is found by its name, and by that of its program."""
-    os.makedirs(f"{folder}/placed/bin")
-    shutil.copy(program, f"{folder}/placed/bin/oncrpc")
-    shutil.copytree(f"{ROOT}/share/oncrpc", f"{folder}/placed/share/oncrpc")
+    by_itself = placed_program(program, folder)
     for line, given, whole in (
         (["check", "--types", "mount", "--name", "mountstat3"], b"\0\0\0\r", (0, b"ok 4\n", b"")),
         (["call", HOST, "mount.3.NONE"], b"", (2, b"", b"no such procedure\n")),
     ):
         begin = 1 if "check" in line else first_growth(program, folder, heap, ["call", HOST, "1.3.NONE"])
-        got, counts, bad = swept(f"{folder}/placed/bin/oncrpc", folder, heap, line, given, begin)
+        got, counts, bad = swept(by_itself, folder, heap, line, given, begin)
         yield f"{' '.join(line)}, {counts} growths, reads and writes refused", got == whole and not bad, (got, bad[:3])

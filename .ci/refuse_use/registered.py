@@ -14,8 +14,9 @@ import tempfile
 sys.dont_write_bytecode = True
 sys.path.insert(0, os.path.dirname(os.path.dirname(os.path.realpath(__file__))))
 
-from refuse_use.answering import Server, endless, garbage, silent
-from refuse_use.called import DECLARED, HOST, LONG, PROGRAM, marked, opaque, run, success, words
+from refuse_use.answering import Server, endless, flooding, garbage, other, silent, trickle
+from refuse_use.call_recorded import EXPORT, EXPORTED, EXPORTED_JSON
+from refuse_use.called import DECLARED, HOST, LONG, PROGRAM, marked, opaque, placed_program, run, success, words
 from refuse_use.refusing import first_growth, swept
 from telling import tell
 from timing import SOON, in_time
@@ -51,6 +52,14 @@ ANSWERS_OVER_6 = [
     ((opaque(b"::1.0.0"), opaque(b".0.111"), words(111)), [4, 3], 1, b"", NO_ROW),
     ((None, None, words(111)), [4, 3], 1, b"", NO_ROW),
 ]
+# Of which each growth, read and write is refused.
+SWEPT = [
+    ((AT, None, None), HOST),
+    ((None, AT, None), HOST),
+    ((opaque(b""), opaque(b""), words(111)), HOST),
+    ((None, None, None), HOST),
+    ((None, opaque(b"2001:DB8:0:0:8:800:200C:417A.0.111"), None), SIX),
+]
 CALL = ["call", HOST, "ASKED.FIRST.NIL", "--types", "asked.x"]
 # The call of the program behind its xid.
 CALLED = words(0, 2, PROGRAM, 1, 0, 0, 0, 0, 0)
@@ -59,21 +68,21 @@ SECOND = "127.0.0.2"
 NAMES = f"::1 first\n{HOST} first\n::1 second\n{SECOND} second\n{HOST} second\n"
 
 
-def question(version, udp, six=b""):
-    """The call by which a version of the registry is asked, behind its xid."""
+def question(version, udp, six=b"", program=(PROGRAM, 1)):
+    """The call by which a version of the registry is asked for a version of a program, behind its xid."""
     if version == 2:
-        row = words(PROGRAM, 1, 17 if udp else 6, 0)
+        row = words(*program, 17 if udp else 6, 0)
     else:
-        row = words(PROGRAM, 1) + opaque((b"udp" if udp else b"tcp") + six) + opaque(b"") + opaque(b"")
+        row = words(*program) + opaque((b"udp" if udp else b"tcp") + six) + opaque(b"") + opaque(b"")
     return words(0, 2, REGISTRY, version, 3, 0, 0, 0, 0) + row
 
 
-def registry(answers):
-    """Answers as the registry's versions 4, 3 and 2, and as the program itself."""
+def registry(answers, results=b""):
+    """Answers as the registry's versions 4, 3 and 2, and as the program itself, which has these results."""
 
     def answer(server, message, datagram):
         xid, program, version = struct.unpack(">I8xII", message[:20])
-        told = success(xid=xid) if program != REGISTRY else words(xid, 1, 0, 0, 0, 2, 2, 4)
+        told = success(results, xid=xid) if program != REGISTRY else words(xid, 1, 0, 0, 0, 2, 2, 4)
         if program == REGISTRY and answers[4 - version] is not None:
             told = success(answers[4 - version], xid=xid)
         return [told if datagram else marked(told)]
@@ -128,9 +137,9 @@ def answered_rows(program, folder):
             yield f"a registry that answers {answers} {' '.join(over)}", well, told
 
 
-def answered(program, folder, line, answers, wanted, host=HOST):
+def answered(program, folder, line, answers, wanted, host=HOST, results=b""):
     """Whether with a registry of these answers a call gives what is wanted, and these calls are made, each once."""
-    with Server(registry(answers), 111, host) as server:
+    with Server(registry(answers, results), 111, host) as server:
         got, _ = run(program, folder, line)
     return (got, [it[4:] for it in server.calls]) == wanted, (got, [it.hex() for it in server.calls])
 
@@ -143,6 +152,16 @@ def answered_over_6(program, folder):
             line, wanted = ["call", SIX, *CALL[2:], *over], ((status, output, faults), asked)
             well, told = in_time(lambda: answered(program, folder, line, answers, wanted, SIX))
             yield f"a registry at {SIX} that answers {answers} {' '.join(over)}", well, told
+
+
+def exported_rows(program, folder):
+    """EXPORT by a host and a name alone: the declarations are the installed ones, and the port the registry's."""
+    by_itself = placed_program(program, folder)
+    for over in ([], ["--udp"]):
+        asked = [question(4, over, program=EXPORT[:2]), words(0, 2, *EXPORT, 0, 0, 0, 0)]
+        line, wanted = ["call", HOST, "mount.3.EXPORT", *over], ((0, EXPORTED_JSON, b""), asked)
+        well, told = in_time(lambda: answered(by_itself, folder, line, (AT, None, None), wanted, HOST, EXPORTED))
+        yield f"mount.3.EXPORT {' '.join(over)} of a host alone", well, told
 
 
 def mapped_rows(program, folder):
@@ -177,6 +196,10 @@ def hindered_rows(program, folder):
         (silent, [], 3, b"no answer within 2 seconds\n"),
         (silent, ["--udp"], 3, b"no answer within 2 seconds\n"),
         (endless, [], 3, b"no answer within 2 seconds\n"),
+        (trickle, [], 3, b"no answer within 2 seconds\n"),
+        (trickle, ["--udp"], 3, b"no answer within 2 seconds\n"),
+        (flooding, ["--udp"], 3, b"no answer within 2 seconds\n"),
+        (other, [], 1, NO_ROW),
         (garbage, [], 1, NO_ROW),
         (garbage, ["--udp"], 1, NO_ROW),
     ):
@@ -195,13 +218,17 @@ def hindered(program, folder, answer, over, wanted):
 
 
 def refused_rows(program, folder, heap):
-    """Each growth, read and write refused, of the look-up and of the call."""
-    for over in ([], ["--udp"]) if heap else ():
-        with Server(registry((None, opaque(b""), words(111))), 111):
-            later = first_growth(program, folder, heap)
-            got, counts, bad = swept(program, folder, heap, [*CALL, *LONG, *over], begin=later)
-        name = f"by the registry {' '.join(over)}, {counts} growths, reads and writes refused"
-        yield name, got[0] == 0 and not bad, (got, bad[:3])
+    """Each growth, read and write refused, of the look-up and of the call: of a registry whose version 4, 3 or 2 tells
+    the port, of one whose versions tell none, and over IPv6."""
+    later = first_growth(program, folder, heap) if heap else 0
+    for answers, host in SWEPT if heap else ():
+        for over in ([], ["--udp"]):
+            status, *wanted = next(row[2:] for row in [*ANSWERS, *ANSWERS_OVER_6] if row[0] == answers)
+            with Server(registry(answers), 111, host):
+                line = ["call", host, *CALL[2:], *LONG, *over]
+                got, counts, bad = swept(program, folder, heap, line, begin=later)
+            name = f"by the registry at {host} {' '.join(over)}, {counts} growths, reads and writes refused"
+            yield name, got == (status, *wanted) and not bad and counts[0] > later, (got, bad[:3])
 
 
 def registered_rows(program, heap):
@@ -234,7 +261,7 @@ def main(program, heap):
         with open(f"{folder}/asked.x", "wb") as it:
             it.write(DECLARED)
         swept_rows = lambda *of: refused_rows(*of, heap)
-        told_rows = (answered_rows, answered_over_6, mapped_rows, lost_rows, placed_rows, pinged_rows)
+        told_rows = (answered_rows, answered_over_6, exported_rows, mapped_rows, lost_rows, placed_rows, pinged_rows)
         for rows in (*told_rows, hindered_rows, swept_rows):
             for name, is_well, told in rows(program, folder):
                 well.append(tell(f"oncrpc call, {name}", is_well, told))

@@ -1,7 +1,9 @@
 """Cases as lines for 'tool_probe', and what it told of each: words `key=value`, as README.md has them."""
 import collections
+import math
 import os
 import re
+import resource
 import subprocess
 
 from rows.shared import octets
@@ -118,6 +120,28 @@ def judged_in(seconds, name, cases):
         if rows and not bad:
             break
     return told_of_wrong(f"{name}, {seconds} processor seconds", rows, bad)
+
+
+def judged_each_in(seconds, name, cases):
+    """The same of each case in a run of its own, which has so many processor seconds, or a part of one, and three tries.
+    One that takes longer than the next whole second is ended."""
+    rows, bad = list(cases()), []
+    for row in rows:
+        for _ in range(3):
+            began = seconds_of_runs()
+            _, wrong = wrong_of([row], None, None, math.ceil(seconds))
+            took = seconds_of_runs() - began
+            if not wrong and took <= seconds:
+                break
+        else:
+            bad.append((line_of(row[0])[:200], f"{took:.2f} processor seconds", *wrong))
+    return told_of_wrong(f"{name}, {seconds} processor seconds each", rows, bad)
+
+
+def seconds_of_runs():
+    """The processor seconds of all runs that have ended."""
+    used = resource.getrusage(resource.RUSAGE_CHILDREN)
+    return used.ru_utime + used.ru_stime
 
 
 def wrong_of(rows, stack, room, seconds, **variables):

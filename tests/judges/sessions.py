@@ -8,7 +8,8 @@ refused, a connection may end at an allocation failure, and a call may be answer
 import itertools
 import random
 
-from rows.sessions import BY_CALLER, SESSIONS
+from rows.answers import GREATEST_USER, ROOT, TABLES, called
+from rows.sessions import AGAIN, BY_CALLER, SESSIONS
 from rows.shared import (
     ASKED_AFTER,
     BY_RECORD,
@@ -18,22 +19,29 @@ from rows.shared import (
     GETADDR,
     LONG,
     NULL,
+    OWN_ADDRESS,
     PIECES,
     REPLY,
     SERVED,
     SERVED_LONG,
     SET,
+    UNSET,
+    call,
     denied,
     marked,
     octets,
+    reply,
     told_after,
     word,
 )
+from rows.written import SERVED_SO
 
 from .running import run
 from .streams import records_in, replies_to
 
 LIMIT = 65536
+# What random pieces are made from, where nothing else is said.
+SEED = 1
 NO_MEMORY = "out of memory"
 # A record, its replies without and with the row, and whether the row is there afterwards, where that changes. To a
 # caller who is known a SET of a row that is there is TRUE.
@@ -41,6 +49,28 @@ REPLIES = BY_RECORD | {record: (record, sent, sent, None) for record, sent in (*
 REPLIES[SET] = (SET, BY_RECORD[SET][1], BY_RECORD[SET][1], True)
 # The most bytes of a reply as a fragment.
 MOST_MARKED = 16777244
+# How many calls a connection makes, each with an xid of its own; how many bytes writes take of their replies, each of
+# 28 bytes; and with more than how many bytes waiting `serve` takes no more.
+OWED, TAKEN, SERVE_BOUND = 800, (1, 27, 28, 29, 3), 8192
+
+
+# Who opens a connection: a user whom the kernel names, by the uid; all others are nobody by name here, since the calls
+# that change the row have AUTH_NONE. Of another host, who came to 10.0.0.7, changes are taken of the trusted one alone.
+LOCAL, NOBODY, SUPERUSER = "local", "nobody", 0
+UIDS = {"user": 7, "superuser": SUPERUSER}
+CALLERS = [LOCAL] * 4 + ["remote", "trusted", *UIDS]
+IS_FALSE = reply("00000000 00000000")
+# The replies that tell an address at 0.0.0.0, and what is told to one who came to 10.0.0.7 (RFC 1833 section 2.2.1).
+TOLD_AFAR = {
+    reply("00000000 0000000b 302e302e 302e302e 382e3100"): reply("00000000 0000000c 31302e30 2e302e37 2e382e31"),
+    OWN_ADDRESS: reply("00000000 0000000e 31302e30 2e302e37 2e302e31 31310000"),
+}
+
+
+def is_change(record):
+    """Whether a record is a SET or an UNSET of the registry (RFC 5531 section 9, RFC 1833 sections 2.2 and 3.2)."""
+    is_call = record[4:16] == word(0) + word(2) + word(100000)
+    return is_call and record[16:20] in map(word, (2, 3, 4)) and record[20:24] in (word(1), word(2))
 
 
 class Reading:
@@ -77,22 +107,33 @@ class Reading:
 
 
 class Connection:
-    def __init__(self):
-        self.reading, self.output, self.fault, self.brought, self.records = Reading(), b"", None, b"", []
+    def __init__(self, caller):
+        self.caller, self.reading, self.output, self.fault = caller, Reading(), b"", None
+        self.brought, self.records = b"", []
 
 
 class Serving:
     """A table and its registry. `answers` says what an event may be answered, the one without refused memory first."""
 
     def __init__(self, most, bound):
-        self.most, self.bound, self.next, self.open, self.has_row = most, bound, 0, {}, False
-        self.missed = 0
+        self.most, self.bound, self.next, self.open = most, bound, 0, {}
+        # Whose the row is, None where there is none.
+        self.owner, self.missed = None, 0
 
-    def reply_to(self, record, is_datagram=False):
-        """The reply to a record, and whether the row is there then. GETADDR asks for the transport of the call."""
+    def reply_to(self, record, caller=LOCAL, is_datagram=False):
+        """The reply to a record, and whose the row is then. GETADDR asks for the transport of the call. A change by who
+        may make none is AUTH_TOOWEAK, and a row of another is neither set again nor removed."""
         _, without, with_row, after = REPLIES[record]
-        has_row = self.has_row and not (is_datagram and record == GETADDR)
-        return (with_row if has_row else without), (self.has_row if after is None else after)
+        mine, has_row = UIDS.get(caller, NOBODY), self.owner is not None
+        if is_change(record):
+            if caller == "remote":
+                return denied(5, int.from_bytes(record[:4], "big")), self.owner
+            is_refused = mine != self.owner and (record == SET or mine != SUPERUSER)
+            if record in (SET, UNSET) and has_row and is_refused:
+                return IS_FALSE, self.owner
+        said = with_row if has_row and not (is_datagram and record == GETADDR) else without
+        owner = self.owner if after is None else mine if after else None
+        return (TOLD_AFAR.get(said, said) if caller == "remote" else said), owner
 
     def taken(self, number, piece, told):
         connection = self.open.get(number)
@@ -116,33 +157,33 @@ class Serving:
         return self.answered(connection, used, record, told)
 
     def answered(self, connection, used, record, told):
-        reply, has_row = self.reply_to(record)
+        reply, owner = self.reply_to(record, connection.caller)
         if reply is None:
             return told == f"answered {used}"
         missed = octets(record[:4].hex() + REPLY[8:] + "00000005")
         if told == f"answered {used} {marked(missed).hex()}":
             self.missed, connection.output = self.missed + 1, connection.output + marked(missed)
             return True
-        self.has_row, connection.output = has_row, connection.output + marked(reply)
+        self.owner, connection.output = owner, connection.output + marked(reply)
         return told == f"answered {used} {marked(reply).hex()}"
 
-    def opened(self, told):
+    def opened(self, caller, told):
         if len(self.open) >= self.most:
             return told == "all are open"
         if told == NO_MEMORY:
             self.missed += 1
             return True
-        self.open[self.next], self.next = Connection(), self.next + 1
+        self.open[self.next], self.next = Connection(caller or LOCAL), self.next + 1
         return told == f"open {self.next - 1}"
 
     def came(self, record, told):
-        reply, has_row = self.reply_to(record, True)
+        reply, owner = self.reply_to(record, is_datagram=True)
         if reply is None:
             return told == "no reply"
         if told == f"out of memory, xid {int.from_bytes(record[:4], 'big')}":
             self.missed += 1
             return True
-        self.has_row = has_row
+        self.owner = owner
         return told == f"reply {reply.hex()}"
 
     def kept(self, connection, told):
@@ -176,7 +217,7 @@ class Serving:
         connection = self.open.get(int(first)) if first.isdigit() and name != "came" else None
         match name:
             case "open":
-                return self.opened(told)
+                return self.opened(rest, told)
             case "take":
                 return self.taken(int(first), octets(more), told)
             case "write":
@@ -209,7 +250,7 @@ def is_served(case, most_missed=0):
     def is_well(told):
         model = Serving(case.most, case.bound)
         is_right = model.is_well(case.events, told.answer.split("; "), most_missed)
-        return is_right and told.streams[0] == told_after(model.has_row)
+        return is_right and told.streams[0] == told_after(model.owner is not None)
 
     return is_well
 
@@ -249,6 +290,18 @@ def alone_session_cases():
         )
 
 
+def table_session_cases():
+    """The calls of tables that `serve` is given, through one connection each. To a caller who is known a SET of a row
+    that is there is TRUE, and all else is the same."""
+    for rows, piece in itertools.product((*TABLES, *SERVED_SO), PIECES):
+        given = b"".join(marked(record) for record, _ in rows)
+        sent = b"".join(marked(AGAIN.get(record, said)) for record, said in rows if said is not None)
+        events = ["open", *fed(given, piece), "write:0:1000000", "end:0"]
+        case = Case("SessionTable", most=1, bound=1 << 20, events=events)
+        ending = [f"wrote {sent.hex()}", "ended"]
+        yield case, lambda told, ending=ending: told.answer.split("; ")[-2:] == ending
+
+
 def random_stream(source):
     """Records in fragments; few are long, and few streams come to a record that is too long, or end inside one."""
     records = source.choices([*REPLIES], k=source.randrange(1, 12))
@@ -272,8 +325,9 @@ class Interleaving:
         assert self.model.is_answer(event, told), (event, told)
 
     def open_one(self):
+        """Begins a connection of any caller."""
         number = self.model.next
-        self.happens("open", f"open {number}")
+        self.happens(f"open:{self.source.choice(CALLERS)}", f"open {number}")
         self.streams[number] = random_stream(self.source)
 
     def take(self, number):
@@ -320,12 +374,12 @@ class Interleaving:
         return sum(event.startswith("take") for event in self.events)
 
 
-def random_session_cases(seed=1, count=20000, connections=64, most=2000):
-    """So many pieces of so many connections at a time, in runs of at most so many."""
+def random_session_cases(seed=SEED, count=20000, connections=64, most=2000):
+    """So many pieces in runs of at most so many, the first of so many connections at a time, the others of some."""
     source, left = random.Random(seed), count
     while left > 0:
         made = Interleaving(source, connections)
-        for _ in range(source.randrange(1, connections + 1)):
+        for _ in range(connections if left == count else source.randrange(1, connections + 1)):
             made.open_one()
         while made.pieces() < min(left, most):
             for _ in range(100):
@@ -335,8 +389,54 @@ def random_session_cases(seed=1, count=20000, connections=64, most=2000):
         yield case, is_served(case)
 
 
+class Owing:
+    """A connection that owes replies: events, what each is answered, and the bytes that wait."""
+
+    def __init__(self, bound):
+        self.bound, self.waiting, self.rows = bound, b"", [("open", "open 0")]
+        self.parts = itertools.cycle(TAKEN)
+
+    def call(self, xid):
+        """Brings a call of this xid, and tells whether it is taken."""
+        record = marked(word(xid) + NULL[4:])
+        reply = marked(word(xid) + octets(REPLY[8:] + "00000000"))
+        is_taken = len(self.waiting) <= self.bound
+        self.rows.append((f"take:0:{record.hex()}", f"answered {len(record)} {reply.hex()}" if is_taken else "full"))
+        self.waiting += reply if is_taken else b""
+        return is_taken
+
+    def write(self):
+        """A write takes some of what waits."""
+        count = next(self.parts)
+        self.rows.append((f"write:0:{count}", f"wrote {self.waiting[:count].hex()}"))
+        self.waiting = self.waiting[count:]
+
+    def case(self):
+        """The case and its judge, once all that waits was written; nothing is kept then, and no more is written."""
+        while self.waiting:
+            self.write()
+        self.rows += [("write:0:1", "wrote "), ("kept:0", "kept 0 of 1"), ("end:0", "ended")]
+        wanted = "; ".join(answer for _, answer in self.rows)
+        return serving(1, self.bound, [event for event, _ in self.rows]), lambda told: told.answer == wanted
+
+
+def owing_cases():
+    """A connection that owes many replies gives each once, in the order of its calls, whatever parts of them are taken:
+    behind the last call, behind each, and where no more is taken until some were."""
+    late, between, full = Owing(1 << 20), Owing(1 << 20), Owing(SERVE_BOUND)
+    for xid in range(OWED):
+        late.call(xid)
+        between.call(xid)
+        between.write()
+        while not full.call(xid):
+            full.write()
+    yield from (owing.case() for owing in (late, between, full))
+
+
 def large_session_cases():
-    """The longest record, a mebibyte of replies that wait, and ten thousand connections of which the last is served."""
+    """The longest record, a mebibyte of replies that wait, ten thousand connections of which the last is served, and
+    the longest reply."""
+    yield from owing_cases()
     longest = marked(NULL.ljust(LIMIT, b"\xff"))
     sent = marked(octets(REPLY + "00000000"))
     case = Case("SessionTable", most=1, bound=0, events=["open", f"take:0:{longest.hex()}", "write:0:28"])
@@ -348,6 +448,53 @@ def large_session_cases():
     yield case, is_served(case)
     case = serving(10000, 100, ["open"] * 10001 + [f"take:9999:{marked(SET).hex()}", "kept:9999", "write:9999:99"])
     yield case, is_served(case)
+    yield from full_session_cases()
+
+
+# The bound of `serve`, and how many bytes the longest reply has with its header: the rows of a full registry.
+BOUND, LONGEST = 8192, 364576
+
+
+def full_rows():
+    """Calls that leave 1024 rows with the longest netid, address and owner, each with its reply; and the reply to DUMP
+    then. The superuser removes the registry's own rows before."""
+    texts = f"{word(64).hex()} {'74' * 64} {word(256).hex()} {'61' * 256}"
+    named = [f"{program:08x} 00000001 {texts}" for program in range(1, 1025)]
+    calls = [called(ROOT, 4, 2, f"000186a0 {vers:08x}" + "00000000" * 3, "00000000 00000001") for vers in (2, 3, 4)]
+    calls += [called(GREATEST_USER, 4, 1, f"{each} 00000000", "00000000 00000001") for each in named]
+    owner = word(10) + b"4294967295\0\0"
+    rows = b"".join(word(1) + octets(each) + owner for each in named)
+    return calls, reply("00000000") + rows + word(0)
+
+
+def full_session_cases():
+    """The output that one DUMP of a full registry leaves behind replies that wait and replies that writes have taken:
+    within twice the bound and that reply, and above the bound no second one."""
+    calls, rows = full_rows()
+    nothing = f"answered {len(NULL) + 4} {marked(reply('00000000')).hex()}"
+    happens = [("open", "open 0")]
+    for record, said in calls:
+        happens += [(f"take:0:{marked(record).hex()}", f"answered {len(record) + 4} {marked(said).hex()}")]
+        happens += [("write:0:32", f"wrote {marked(said).hex()}")]
+    waiting = b""
+    for more, taken in ((293, 4101), (146, 2044), (73, 1022), (36, 504), (18, 0)):
+        happens += [(f"take:0:{marked(NULL).hex()}", nothing)] * more
+        waiting += marked(reply("00000000")) * more
+        happens += [(f"write:0:{taken}", f"wrote {waiting[:taken].hex()}")]
+        waiting = waiting[taken:]
+    dump = call(4, 4, "")
+    happens += [(f"take:0:{marked(dump).hex()}", f"answered {len(dump) + 4} {marked(rows).hex()}")]
+    happens += [(f"take:0:{marked(dump).hex()}", "full")]
+    *wanted, least = [answer for _, answer in happens] + [len(waiting) + LONGEST]
+    case = Case("SessionTable", most=1, bound=BOUND, events=[event for event, _ in happens] + ["kept:0"])
+
+    def is_well(told):
+        *answers, kept = told.answer.split("; ")
+        count, others = kept.removeprefix("kept ").split(" of ")
+        is_within = least <= int(count) <= 2 * BOUND + LONGEST
+        return answers == wanted and is_within and others == "1" and len(marked(rows)) == LONGEST
+
+    yield case, is_well
 
 
 def caller_cases():
@@ -365,6 +512,7 @@ def caller_cases():
 def session_cases():
     yield from worked_session_cases()
     yield from alone_session_cases()
+    yield from table_session_cases()
     yield from caller_cases()
 
 
@@ -415,6 +563,9 @@ def session_memory_cases(heap):
     # All is given back but for what a table and its sessions keep; and at the end of each connection that too.
     drained = [f"write:{number}:1000000" for number in range(64)]
     yield serving(64, 1000, opened + asked + drained), lambda told: told.counts[0] <= 64 * (2 * 8192 + 2048)
+    # So is the memory of far more replies than are kept between two records, while their connection stays.
+    many = ["open", *[f"take:0:{marked(DUMP).hex()}"] * OWED, "write:0:1000000"]
+    yield serving(1, 1 << 20, many), lambda told: told.counts[0] <= 2 * 8192 + 2048
     closed = [f"close:{number}" for number in range(64)]
     empty = run([serving(64, 1000, opened + closed)], LD_PRELOAD=heap)[0].counts
     yield serving(64, 1000, opened + asked + brought + closed), lambda told: told.counts == empty

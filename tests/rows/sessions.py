@@ -102,6 +102,18 @@ SESSIONS = [
         ("write:0:28", wrote(marked(NOTHING))), ("kept:0", "kept 28 of 1"), ("close:0", "closed 28"),
     ]),
 ]
+# The SETs of rows/answers.py that come where their row is there, with its owner and its address, and their replies to a
+# caller who is known: TRUE, as rpcbind has it. The first is the same record as that which sets the row.
+AGAIN = {
+    octets(
+        "00000001 00000000 00000002 000186a0 00000002 00000001 00000000 00000000 00000000 00000000 20000000 00000001 "
+        "00000006 00000801"
+    ): IS_TRUE,
+    octets(
+        "ea1c987a 00000000 00000002 000186a0 00000002 00000001 00000000 00000000 00000000 00000000 20000000 00000001 "
+        "00000006 00000801"
+    ): octets("ea1c987a 00000001 00000000 00000000 00000000 00000000 00000001"),
+}
 # Calls of one registry, one after another: who calls, the words of the call, and those of the reply, none where there
 # is none (RFC 5531 section 9, RFC 1833 sections 2.2.1 and 3.2). A remote caller came to 10.0.0.7, changes of a trusted
 # one are taken, and the user has uid 7.
