@@ -53,6 +53,22 @@ OTHERS = [
         b'"flavor":"AUTH_NONE","arguments":[{"prog":100003,"vers":3,"prot":6,"port":0}]}\n' + CLOSED % (1, 0, 0),
     ),
     (
+        "a call and its reply, in brief",
+        "--brief",
+        classic(PAIR, 101),
+        0,
+        b"1 1.000000000 127.0.0.1:700 > 127.0.0.1:111 call 8 100000.2.3 GETPORT AUTH_NONE\n"
+        b"2 1.000001000 127.0.0.1:111 > 127.0.0.1:700 reply 8 100000.2.3 GETPORT SUCCESS\n" + counts(1, 1, 0, 0, 0, 0),
+    ),
+    (
+        "arguments that are refused, in brief and as JSON",
+        "--brief --json",
+        classic([datagram(CLIENT, SERVER, GETPORT + b"\0")], 101),
+        1,
+        FRONT % (1, 0) + b'"type":"call","xid":8,"program":100000,"version":2,"procedure":3,"name":"GETPORT",'
+        b'"flavor":"AUTH_NONE","refused":"MoreFollows","at":56}\n' + CLOSED % (1, 0, 1),
+    ),
+    (
         "JSON of what has no message",
         "--json",
         classic(TORN),

@@ -3,6 +3,7 @@ import os
 import shutil
 import subprocess
 
+from refuse_use.messages_brief import BRIEF
 from refuse_use.messages_hostile import hostile_rows
 from refuse_use.messages_long import further_rows
 from refuse_use.messages_recorded import recorded_rows
@@ -196,7 +197,7 @@ def beside_installed(program, folder):
 def messages_rows(program, folder, heap):
     sweep = Sweep(program, folder, heap)
     yield sweep.row("an empty stream", RPCBIND, b"", (0, counts(0, 0, 0, 0, 0, 0)), 1)
-    for what, line, given, *wanted in ROWS:
+    for what, line, given, *wanted in ROWS + BRIEF:
         yield sweep.row(what, line, given, tuple(wanted))
     yield from both_rows(sweep, BOTH)
     said = named(program, f"{folder}/watched")

@@ -171,6 +171,6 @@ prints_capture left_of known reported what declared file left taken taken' statu
   heads = p.heads;
   declares = d;
   are_heads = p.are_heads;
-  prints = prints_named left_of reported (terms_in known declared (heads_of p.heads) what.json) what file left taken
+  prints = prints_named left_of reported (terms_in known declared (heads_of p.heads) what.style) what file left taken
       taken' status opened p.prints;
 }

@@ -56,7 +56,7 @@ pub record PrintsCapture (known : List Declared) (reported : List ℕ → Option
   pub heads : code.Heads
   pub declares : Declares reported what.types declared
   pub are_heads : AreHeads heads
-  pub prints : PrintsNamed (terms_in known declared (heads_of heads) what.json) reported what left taken taken' status
+  pub prints : PrintsNamed (terms_in known declared (heads_of heads) what.style) reported what left taken taken' status
 
 -- What the status says. 0 or 1: what came of the capture was printed. 2: the texts have no meaning, and nothing was
 -- printed. 3: a device failed. 4: memory was refused.

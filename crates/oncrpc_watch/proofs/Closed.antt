@@ -50,14 +50,14 @@ pub prints_messages : {T : Type 0} (left_of : T → Option (List ℕ)) (known : 
     (reported : List ℕ → Option (List ℕ)) (what : MessagesTask) (declared : Declared) (text : Option T)
     (left taken taken' : Option (List ℕ)) (status : ℕ) → Declares reported what.types declared
     → IsOpened left_of reported what.replies text
-    → PrintsBy left_of known declared what.json text left taken taken' status
+    → PrintsBy left_of known declared what.style text left taken taken' status
     → PrintsMessages known reported what left taken taken' status
 prints_messages left_of known reported what declared text left taken taken' status d opened p = record {
   declared = declared;
   heads = p.heads;
   declares = d;
   are_heads = p.are_heads;
-  prints = prints_of left_of reported (terms_in known declared (heads_of p.heads) what.json) what.replies text
+  prints = prints_of left_of reported (terms_in known declared (heads_of p.heads) what.style) what.replies text
       left taken taken' status opened p.prints;
 }
 

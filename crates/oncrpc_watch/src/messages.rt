@@ -11,6 +11,7 @@ ghost use Rattle.oncrpc_watch.specs.Terms.{each_declared, terms_of};
 use crate::both::tell_both;
 use crate::counts::counts_line;
 use crate::stream::Stream;
+use crate::style::Style;
 use crate::task::{Known, MessagesTask};
 use crate::terms::Terms;
 use crate::watch::Watch;
@@ -45,7 +46,7 @@ pub fn messages_over<P: Opener, I: Source + Drop, O: Sink, F: Sink>(
         Ok(declared) => declared,
         Err(why) => return refuse_texts(known.alloc, why, &what.types.files, faults),
     };
-    match print_by(known, &declared, what.json, input, other, output) {
+    match print_by(known, &declared, what.style, input, other, output) {
         Ok(status) => status,
         Err(failure) => report(failure, faults),
     }
@@ -69,34 +70,40 @@ fn replies_of<P: Opener>(what: &MessagesTask, opener: &mut P) -> Result<Option<P
 fn print_by<I: Source + Drop, R: Source + Drop, O: Sink>(
     known: Known<'_>,
     declared: &Declared,
-    json: bool,
+    style: Style,
     input: I,
     other: Option<R>,
     output: &mut O,
 ) -> Result<u8, Failure>
     ensures few { IfOk result (λ status. status ≤ 1) }
     ensures prints { IfOk result (λ status. PrintsBy R.left (each_declared known.entry.texts.now)
-        (declared_of declared.now) json other (I.left input) (O.taken output.old)
+        (declared_of declared.now) style other (I.left input) (O.taken output.old)
         (O.taken output.new) status) }
 {
     let heads = read_heads(known.alloc)?;
-    let terms = terms_by(known, declared, &heads, json);
+    let terms = terms_by(known, declared, &heads, style);
     let mut watch = Watch::new(known.alloc, &terms);
     let status = print_in(known.alloc, &mut watch, input, other, output)?;
     Ok(status)
 }
 
 // By what messages are judged and printed.
-fn terms_by<'a>(known: Known<'a>, declared: &'a Declared, heads: &'a Heads, json: bool) -> Terms<'a>
+fn terms_by<'a>(
+    known: Known<'a>,
+    declared: &'a Declared,
+    heads: &'a Heads,
+    style: Style,
+) -> Terms<'a>
     ensures { terms_of result ≡ terms_in (each_declared known.entry.texts.now) (declared_of declared.now)
-        (heads_of heads.now) json }
+        (heads_of heads.now) style }
 {
     Terms {
         declared,
         known: known.texts,
         heads,
         limits: Limits::new(4096, 16777216).unwrap(),
-        form: form_of(json),
+        form: form_of(style.json),
+        brief: style.brief,
     }
 }
 

@@ -198,5 +198,5 @@ pub record PrintsBy {T : Type 0} (left_of : T → Option (List ℕ)) (known : Li
     (what : CaptureTask) (file : Option T) (left taken taken' : Option (List ℕ)) (status : ℕ) : Type 0 where
   pub heads : code.Heads
   pub are_heads : AreHeads heads
-  pub prints : PrintsPackets (terms_in known declared (heads_of heads) what.json) what.ports.items what.stats
+  pub prints : PrintsPackets (terms_in known declared (heads_of heads) what.style) what.ports.items what.stats
       (given_of left_of file left) taken taken' status

@@ -12,6 +12,7 @@ use Rattle.oncrpc_watch.specs.declared.ending.Ending.{Ending}
 use Rattle.oncrpc_watch.specs.declared.stream.Come.{Come}
 use Rattle.oncrpc_watch.specs.declared.stream.Come.TheVariants as come
 use Rattle.oncrpc_watch.specs.declared.stream.TheConstants.{MOST_RECORD}
+use Rattle.oncrpc_watch.specs.declared.style.Style.{Style}
 use Rattle.oncrpc_watch.specs.declared.watch.Watch.{Watch}
 use Rattle.oncrpc_watch.specs.Events.{Ends, Event, Joins, Record, TellsEvents}
 use Rattle.oncrpc_watch.specs.Lines.{counts_line}
@@ -123,10 +124,10 @@ PrintsIn left_of t (Some text) left taken taken' status = PrintsBoth t left (lef
 
 -- The same by what is declared, and the types of heads.
 pub record PrintsBy {T : Type 0} (left_of : T → Option (List ℕ)) (known : List Declared) (declared : Declared)
-    (json : Bool) (other : Option T) (left taken taken' : Option (List ℕ)) (status : ℕ) : Type 0 where
+    (style : Style) (other : Option T) (left taken taken' : Option (List ℕ)) (status : ℕ) : Type 0 where
   pub heads : code.Heads
   pub are_heads : AreHeads heads
-  pub prints : PrintsIn left_of (terms_in known declared (heads_of heads) json) other left taken taken' status
+  pub prints : PrintsIn left_of (terms_in known declared (heads_of heads) style) other left taken taken' status
 
 -- the counts were written, and the status is theirs
 abbrev pub Closes : Watch → (taken taken' : Option (List ℕ)) → (status : ℕ) → Type 0
