@@ -4,10 +4,13 @@ use Rattle.capture_packets.specs.Packet.{SegmentView}
 use Rattle.oncrpc_capture.specs.declared.flow.Found.{Found}
 use Rattle.oncrpc_capture.specs.declared.flows.Flows.{Flows}
 use Rattle.oncrpc_capture.specs.declared.pairs.Pair.{Pair}
+use Rattle.capture_records.specs.declared.told.Told.{Told}
 use Rattle.oncrpc_capture.specs.declared.printing.Printing.{Printing}
+use Rattle.oncrpc_capture.specs.declared.seen.Seen.{Seen}
 use Rattle.oncrpc_capture.specs.Brought.{is_wanted}
 use Rattle.oncrpc_capture.specs.Connections.{AreHeard, IsHeard}
-use Rattle.oncrpc_capture.specs.Entries.{Entry}
+use Rattle.oncrpc_capture.specs.Entries.{Entry, Note}
+use Rattle.oncrpc_capture.specs.Notes.{told_name}
 use Rattle.oncrpc_capture.specs.Private.Follows.{ArePart, FindAt, Includes, KeepAll, TakeAt, from_of, to_of}
 use Rattle.oncrpc_capture.specs.Private.Steps.{Goes, GoesBy, GoesOn, Prints, PrintsFound, PrintsHeard, PrintsOf}
 use Rattle.oncrpc_capture.proofs.Datagrams.{both}
@@ -23,6 +26,10 @@ pub heard_one : (p q : Printing) (e : Entry) (a b : Option (List ℕ)) → ((ss 
     → Prints p q (e ∷ []) a b → PrintsHeard p q a b
 heard_one p q e a b said h =
     record { heard = λ ss. record { entries = e ∷ []; those = (said ss, tt); prints = h } }
+
+pub heard_note : (p q : Printing) (seen : Seen) (t : Told) (count : ℕ) (a b : Option (List ℕ))
+    → Prints p q (Note seen (told_name t) count ∷ []) a b → PrintsHeard p q a b
+heard_note p q seen t count a b h = heard_one p q (Note seen (told_name t) count) a b (λ ss. (t, refl)) h
 
 heard_join : (ss : List SegmentView) (p q r : Printing) (a b c : Option (List ℕ)) → PrintsOf (AreHeard ss) p q a b
     → PrintsOf (AreHeard ss) q r b c → PrintsOf (AreHeard ss) p r a c

@@ -1,15 +1,17 @@
 -- Segments of connections over TCP, and the records that they carry one way (RFC 9293 section 3.4, RFC 5531 section
 -- 11).
-use Rattle.std.specs.Prelude.{ℕ, ◌⊎◌, List, [], ◌∷◌, ◌++◌}
+use Rattle.std.specs.Prelude.{◌≡◌, ℕ, ◌⊎◌, List, [], ◌∷◌, ◌++◌}
 use Rattle.std.specs.List.{AllByRecursion}
 use Rattle.std.specs.declared.net.socket_addr.SocketAddr.{SocketAddr}
 use Rattle.capture_files.specs.Runs as file
 use Rattle.capture_packets.specs.Packet.{SegmentView, PacketView, Segment}
 use Rattle.capture_packets.specs.Packets.{packet_of}
 use Rattle.capture_records.specs.Carried.{Carries, IsPiece}
+use Rattle.capture_records.specs.declared.told.Told.{Told}
 use Rattle.capture_streams.specs.Segments.{Arrival}
-use Rattle.oncrpc_capture.specs.Entries.{Entry, Message}
+use Rattle.oncrpc_capture.specs.Entries.{Entry, Message, Note, TooLong}
 use Rattle.oncrpc_capture.specs.Nodes.{IsNode}
+use Rattle.oncrpc_capture.specs.Notes.{told_name}
 
 -- the segment that a packet carries, where it carries one
 abbrev pub segments_of : PacketView → List SegmentView
@@ -38,10 +40,13 @@ pub record IsCarried (from to : SocketAddr) (segments : List SegmentView) (r : L
   pub each : AllByRecursion (IsOneOf from to segments) arrivals
   pub carries : Carries arrivals r
 
--- a message stands in what was sent from and to the nodes that are told with it
+-- a message stands in what was sent from and to the nodes that are told with it; what else is said is of bytes that no
+-- message has, or of a header that no record has
 abbrev pub IsHeard : List SegmentView → Entry → Type 0
 IsHeard segments (Message seen way bytes) = IsCarried seen.from seen.to segments bytes
-IsHeard segments _ = Unit {0}
+IsHeard segments (Note seen what count) = (t : Told) × (what ≡ told_name t)
+IsHeard segments (TooLong seen) = Unit {0}
+IsHeard segments _ = ⊥
 
 -- so does each of several
 abbrev pub AreHeard : List SegmentView → List Entry → Type 0
