@@ -23,7 +23,7 @@ use Rattle.capture_records.specs.declared.step.Step.{Step}
 use Rattle.capture_records.specs.declared.step.Step.TheVariants.{Record, Tells, TooLong, Waits}
 use Rattle.capture_records.specs.declared.told.Told.{Told}
 use Rattle.capture_records.specs.Carried.{Carries}
-use Rattle.capture_records.specs.Follows.{BeginsAnew, Comes, Drops, Finds, GivesUp, Has, HasAt, IsPart}
+use Rattle.capture_records.specs.Follows.{BeginsAnew, Comes, ComesFirst, Drops, Finds, GivesUp, Has, HasAt, IsPart}
 use Rattle.capture_records.specs.Follows.{Keeps, Passes, Reads, Steps}
 use Rattle.capture_records.specs.Follows.{untaken_of}
 
@@ -352,6 +352,33 @@ side_took old new d d' sequence bytes result was is same_reader same_next at at'
             (arrivals ++ k.0) is same_reader same_next (ap (λ (x : ℕ). drop x new.due.items) at') k.2,
       );
 }
+
+-- a part of a segment comes, and no more of it
+pub side_came : {T : Type 0} (old new : Side) (d d' : Direction) (sequence : ℕ) (bytes : List ℕ) (count : ℕ)
+    (result : Result T Refusal) → old.direction ≡ Some d → new.direction ≡ Some d' → new.reader ≡ old.reader
+    → new.next ≡ old.next → old.at ≡ 0 → new.at ≡ 0 → taken_part result bytes ≡ take count bytes
+    → Takes d d' sequence (taken_part result bytes) old.due.items new.due.items
+    → ComesFirst old new sequence bytes count
+side_came old new d d' sequence bytes count result was is same_reader same_next at at' part takes = record {
+  comes = λ arrivals h.
+      let whole : old.due.items ≡ untaken_of old = ap (λ (k : ℕ). drop k old.due.items) (sym at) in
+      let a = arrival_at d sequence (taken_part result bytes) in
+      let k = has_come d d' old.reader old.next (untaken_of old) arrivals
+      (subst (λ x. HasAt x old.reader old.next (untaken_of old) arrivals) was h) sequence (taken_part result bytes)
+      old.due.items new.due.items takes whole in (
+        a,
+        refl,
+        part,
+        has_same (Some d') new.direction old.reader new.reader old.next new.next new.due.items (untaken_of new)
+            (arrivals ++ a ∷ []) is same_reader same_next (ap (λ (x : ℕ). drop x new.due.items) at') k,
+      );
+}
+
+-- the same as of a side whose other bytes were dropped before
+pub first_after : (old mid new : Side) (sequence : ℕ) (bytes : List ℕ) (count : ℕ) → Keeps old mid
+    → ComesFirst mid new sequence bytes count → ComesFirst old new sequence bytes count
+first_after old mid new sequence bytes count keeps comes =
+    record { comes = λ arrivals h. comes.comes arrivals (keeps.keeps arrivals h) }
 
 -- the same as of a side whose other bytes were dropped before
 pub comes_after : (old mid new : Side) (sequence : ℕ) (bytes : List ℕ) → Keeps old mid → Comes mid new sequence bytes

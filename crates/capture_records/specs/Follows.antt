@@ -1,5 +1,5 @@
 -- What a direction stands for: the pieces of segments that came, and how far their bytes are read.
-use Rattle.std.specs.Prelude.{◌≡◌, ℕ, List, [], ◌++◌, take, drop, Option, Some, None}
+use Rattle.std.specs.Prelude.{◌≡◌, ℕ, List, [], ◌∷◌, ◌++◌, take, drop, Option, Some, None}
 use Rattle.std.specs.List.{AllByRecursion}
 use Rattle.capture_streams.specs.declared.direction.Direction.{Direction}
 use Rattle.capture_streams.specs.Represents.{Stands}
@@ -48,6 +48,12 @@ IsPart sequence bytes a = (a.segment.sequence ≡ sequence) × ((count : ℕ) ×
 pub record Comes (old new : Side) (sequence : ℕ) (bytes : List ℕ) : Type 0 where
   pub comes : (arrivals : List Arrival) → Has old arrivals
       → (more : List Arrival) × AllByRecursion (IsPart sequence bytes) more × Has new (arrivals ++ more)
+
+-- whatever pieces came before, the first so many of these bytes did too, and no others
+pub record ComesFirst (old new : Side) (sequence : ℕ) (bytes : List ℕ) (count : ℕ) : Type 0 where
+  pub comes : (arrivals : List Arrival) → Has old arrivals
+      → (a : Arrival) × (a.segment.sequence ≡ sequence) × (a.segment.bytes ≡ take count bytes)
+      × Has new (arrivals ++ a ∷ [])
 
 -- a record that came stands in what the pieces give
 abbrev pub Finds : Step → List Arrival → (r : List ℕ) → Type 0

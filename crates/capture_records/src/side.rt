@@ -75,11 +75,11 @@ fn first_place(segment: Segment<'_>) -> Next
 }
 
 impl Side {
-    ghost use Rattle.std.specs.Prelude.{◌≡◌, [], None, OnOk, IfOk, true};
+    ghost use Rattle.std.specs.Prelude.{◌≡◌, [], None, OnOk, IfOk, IfSome, true};
     ghost use Rattle.capture_packets.specs.View.{segment_view};
     ghost use Rattle.capture_records.specs.Carried.{first_of};
     ghost use Rattle.capture_records.specs.Exact.{HasTold, IsFresh, IsReading, KeepsTold, StepsTold, TakesAll};
-    ghost use Rattle.capture_records.specs.Follows.{Comes, Drops, GivesUp, Has, Keeps, KeepsNotes, Steps, untaken_of};
+    ghost use Rattle.capture_records.specs.Follows.{Comes, ComesFirst, Drops, GivesUp, Has, Keeps, KeepsNotes, Steps, untaken_of};
 
     /// Before the first segment.
     #[tactic(auto, using(crate::proofs::Telling::telling))]
@@ -182,6 +182,8 @@ impl Side {
     /// behind a hole, and the first so many were taken.
     pub fn take(&mut self, sequence: u32, bytes: &[u8]) -> Result<Option<usize>, AllocError>
         ensures comes { OnOk result (Comes self.old self.new sequence bytes.now) }
+        // Where some were taken, those came, and no others.
+        ensures first { IfOk result (λ taken. IfSome taken (λ n. ComesFirst self.old self.new sequence bytes.now n)) }
         // Where all were taken, all that is due waits to be told.
         ensures told { IfOk result (λ taken. taken ≡ None → TakesAll self.old self.new sequence bytes.now) }
     {

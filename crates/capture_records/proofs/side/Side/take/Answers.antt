@@ -1,6 +1,7 @@
-use Rattle.capture_records.proofs.Reading.{comes_after, drops_keeps, side_took}
+use Rattle.capture_records.proofs.Reading.{comes_after, drops_keeps, first_after, side_came, side_took}
 use Rattle.capture_records.proofs.Telling.{takes_all, takes_never, takes_past}
-use Rattle.std.proofs.Common.{refl}
+use Rattle.std.proofs.Common.{refl, ap, ◌∙◌, take}
+use Rattle.capture_streams.specs.Taking.{taken_of, taken_part}
 use Rattle.capture_records.proofs.side.Side.take.Goals as goal
 
 pub returns-in_default-clause-told : goal.returns-in_default-clause-told
@@ -44,3 +45,14 @@ returns-in-Err-Full-clause-comes c =
     comes_after c.args.self.now mid _ c.args.sequence c.args.bytes.now (drops_keeps c.args.self.now mid drops)
     (side_took mid _ c.in-Some.direction c.take.new.self c.args.sequence c.args.bytes.now c.take.result c.in-Some.is
     refl refl refl drops.at drops.at c.take.ensures.takes)
+
+pub returns-in-Err-Full-clause-first : goal.returns-in-Err-Full-clause-first
+returns-in-Err-Full-clause-first c =
+    let mid = c.drop_taken.new.self in
+    let drops = c.in_ok-drop_taken.ensures in
+    let bytes = c.args.bytes.now in
+    first_after c.args.self.now mid _ c.args.sequence bytes c.in-Err-Full.taken (drops_keeps c.args.self.now mid drops)
+    (side_came mid _ c.in-Some.direction c.take.new.self c.args.sequence bytes c.in-Err-Full.taken c.take.result
+    c.in-Some.is refl refl refl drops.at drops.at
+    (ap (λ r. taken_part r bytes) c.in-Err-Full.is ∙ ap (λ r. take (taken_of r) bytes) c.in-Err-Full.field-0-is)
+    c.take.ensures.takes)
