@@ -100,7 +100,8 @@ pub record PrintsMessagesPart (known : List Declared) (reported : List ℕ → O
   pub heads : code.Heads
   pub declares : Declares reported what.types declared
   pub are_heads : AreHeads heads
-  pub prints : PrintsPartOf (terms_in known declared (heads_of heads) what.style) reported what.replies left taken taken'
+  pub prints : PrintsPartOf (terms_in known declared (heads_of heads) what.style) reported what.replies left taken
+      taken'
 
 -- ---- what failed
 
