@@ -87,11 +87,12 @@ input_stops p q w left a b f begun h is t = inl (
 pub input_closes : (p q : Reached) (w new : Watch) (left : Option (List ℕ)) (a b c : Sunk) (f : Failure)
     → IsAt w nothing → Stands p left [] → p.name ≡ codes "input" → TellsOn p q w new a b → q.ended ≡ true
     → CloseFails new b c f → PrintsInputPart (terms_of w.terms) left a.taken c.taken
-input_closes p q w new left a b c f begun h is t e k = inr (
-  t.events,
-  (q.left, ended_events p q (codes "input") left t.events h is t.on e),
-  closes_part w new t.events a b c f begun t.prints k,
-)
+input_closes p q w new left a b c f begun h is t e k =
+    let all = ended_events p q (codes "input") left t.events h is t.on e in inr (
+      t.events,
+      (q.left, all.0, all.1, all.2),
+      closes_part w new t.events a b c f begun t.prints k,
+    )
 
 -- of both
 pub both_stop : (p q r s : Reached) (w : Watch) (left other : Option (List ℕ)) (a b : Sunk) (f : Failure)
@@ -113,17 +114,19 @@ pub both_close : (p q r s : Reached) (w new : Watch) (left other : Option (List 
     → IsAt w nothing → Stands p left [] → p.name ≡ codes "input" → Stands r other [] → r.name ≡ codes "replies"
     → TellsBoth p q r s w new a b → q.ended ≡ true → s.ended ≡ true → CloseFails new b c f
     → PrintsBothPart (terms_of w.terms) left other a.taken c.taken
-both_close p q r s w new left other a b c f begun h is k name t e g z = inr (
-  t.events,
-  (
-    t.of_calls,
-    t.of_replies,
-    (q.left, ended_events p q (codes "input") left t.of_calls h is t.on_calls e),
-    (s.left, ended_events r s (codes "replies") other t.of_replies k name t.on_replies g),
-    t.joins,
-  ),
-  closes_part w new t.events a b c f begun t.prints z,
-)
+both_close p q r s w new left other a b c f begun h is k name t e g z =
+    let one = ended_events p q (codes "input") left t.of_calls h is t.on_calls e in
+    let two = ended_events r s (codes "replies") other t.of_replies k name t.on_replies g in inr (
+      t.events,
+      (
+        t.of_calls,
+        t.of_replies,
+        (q.left, one.0, one.1, one.2),
+        (s.left, two.0, two.1, two.2),
+        t.joins,
+      ),
+      closes_part w new t.events a b c f begun t.prints z,
+    )
 
 -- what was opened is what is reported
 part_of : {T : Type 0} (left_of : T → Option (List ℕ)) (reported : List ℕ → Option (List ℕ)) (t : Terms)

@@ -16,7 +16,7 @@ use Rattle.oncrpc_tasks.specs.declared.unusable.Unusable.TheVariants as unusable
 use Rattle.oncrpc_watch.specs.declared.task.MessagesTask.{MessagesTask}
 use Rattle.oncrpc_watch.specs.Ends.{MessagesEnd}
 use Rattle.oncrpc_watch.specs.Private.Steps.{IsOpened, IsUnopened, ReportsOther, sunk}
-use Rattle.oncrpc_watch.specs.Private.Steps.Reports as ReportsOne
+use Rattle.oncrpc_watch.specs.Private.Steps.{Reports as ReportsOne}
 use Rattle.oncrpc_watch.specs.Stopped.{DeviceFails, OneFails, PrintsMessagesPart, RepliesFail}
 
 -- a file that failed behind one that did not

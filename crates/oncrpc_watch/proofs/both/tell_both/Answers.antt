@@ -53,7 +53,7 @@ returns-in_err-tell-clause-stops g c =
 
 pub returns-in_err-tell_all-in-Ok-false-clause-stops : goal.returns-in_err-tell_all-in-Ok-false-clause-stops
 returns-in_err-tell_all-in-Ok-false-clause-stops g c =
-    let e = c.from_residual-in_err-tell_all-in-Ok-false in
+    let e = c.from_residual in
     let p = err_from_is_err_and e.result e.ensures.1 in
     rw (p.1, p.2) (both_stops_first _ _ _ _ _ _ _ _ _ _ _
     (both_second _ _ _ _ _ _ _ _ _ _ _ c.replies.invariant.tells

@@ -9,8 +9,8 @@ use Rattle.oncrpc_watch.proofs.messages.messages_over.Goals as goal
 pub returns-in-Err : goal.returns-in-Err
 returns-in-Err g c = ends_unopened _ _ _ _ _ _ _ _ _ _ _ _ c.report.ensures refl c.in-Err.ensures.unopened
 
-pub returns-in-Err-refuse_texts : goal.returns-in-Err-refuse_texts
-returns-in-Err-refuse_texts g c = ends_unusable _ _ _ _ _ _ _ _ _ _ c.in-Err-declared.why _
+pub returns-in-Err-declared : goal.returns-in-Err-declared
+returns-in-Err-declared g c = ends_unusable _ _ _ _ _ _ _ _ _ _ c.in-Err-declared.why _
     c.refuse_texts.ensures.status
     (subst (λ r. HasNone r c.args.what.now.types c.in-Err-declared.why) c.replies_of.ensures.same
     c.in-Err-declared.ensures.refused) refl
@@ -33,8 +33,8 @@ returns-in-Ok-print_by g c = record {
   wanting = λ e. absurd (omega (arith, e, c.in-Ok-print_by.ensures.few));
 }
 
-pub returns-in-Err-print_by : goal.returns-in-Err-print_by
-returns-in-Err-print_by g c = ends_failed _ _ _ _ _ _ _ _ _ _ c.in-Err-print_by.failure _ c.report.ensures
+pub returns : goal.returns
+returns g c = ends_failed _ _ _ _ _ _ _ _ _ _ c.in-Err-print_by.failure _ c.report.ensures
     (elim c.in-Err-print_by.ensures.part [
       | inl same ↦ inl same
       | inr part ↦ inr (messages_part _ _ (g.P.Opener.reported c.args.opener.now) c.args.what.now _ c.in-Ok.other _ _ _

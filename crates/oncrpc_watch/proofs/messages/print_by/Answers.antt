@@ -17,7 +17,7 @@ returns-clause-prints g c = record {
 
 pub returns-in_err-heads-clause-fails : goal.returns-in_err-heads-clause-fails
 returns-in_err-heads-clause-fails g c =
-    let e = c.from_residual-in_err-heads in
+    let e = c.from_residual in
     let p = err_from_is_err_and e.result e.ensures.1 in
     rw p.1 (inl (subst
     (λ x. Reports g.I.Source.failures g.I.Source.reads c.args.input

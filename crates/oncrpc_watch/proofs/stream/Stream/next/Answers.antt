@@ -8,7 +8,7 @@ returns-then-self-clause-reads g c = reads_already _ _ _ _ c.if-self.true
 
 pub returns-in_err-read-clause-stops : goal.returns-in_err-read-clause-stops
 returns-in_err-read-clause-stops g c =
-    let e = c.from_residual-in_err-read in
+    let e = c.from_residual in
     let p = err_from_is_err_and e.result e.ensures.1 in
     rw (p.1, p.2) (on_read _ _ _ _ _ c.in_err-read.ensures.fails)
 

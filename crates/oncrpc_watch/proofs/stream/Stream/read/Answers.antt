@@ -1,4 +1,4 @@
-use Rattle.std.proofs.Common.{sym, subst}
+use Rattle.std.proofs.Common.{Err, sym, ap, subst}
 use Rattle.xdr_io.specs.Reported.{Counts}
 use Rattle.rpc_record.specs.Failures.{reads_failed}
 use Rattle.rpc_record.specs.Streamed.{HasRead, reads_of}
@@ -55,4 +55,4 @@ returns-in_err-ending-in-Err-clause-fails g c =
     (subst (λ k. HasRead limit c.args.self.now.records rs left (g.R.Source.left k)) (sym c.begin.ensures) has))
     (subst (λ k. Counts (reads_failed c.in-Err.fault) (g.R.Source.failures k)
     (g.R.Source.failures c.next_record_into.new.source.source)) c.begin.ensures c.in-Err.ensures.read)
-    c.in-Err.ensures.many failures reads s)
+    (λ e. c.in-Err.ensures.many (ap Err e)) failures reads s)

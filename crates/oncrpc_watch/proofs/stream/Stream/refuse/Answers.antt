@@ -15,7 +15,7 @@ returns-clause-prints g c =
 
 pub returns-in_err-line-clause-stops : goal.returns-in_err-line-clause-stops
 returns-in_err-line-clause-stops g c =
-    let e = c.from_residual-in_err-line in
+    let e = c.from_residual in
     let p = err_from_is_err_and e.result e.ensures.1 in
     rw p.1 (untold c.args.watch.now _ _ p.0 p.2)
 
