@@ -15,7 +15,7 @@ returns-in-Err-declared g c = ends_unusable _ _ _ _ _ _ _ _ _ _ c.in-Err-declare
     (subst (λ r. HasNone r c.args.what.now.types c.in-Err-declared.why) c.replies_of.ensures.same
     c.in-Err-declared.ensures.refused) refl
     (λ e. files_more _ _ _ _ _ _ _ c.in-Ok.ensures.none_failed
-    (subst (λ r. FileFails g.P.Text.left g.P.Text.failures r c.args.what.now.types.files.items _ _)
+    (subst (λ r. FileFails g.P.Text.Source.left g.P.Text.Source.failures r c.args.what.now.types.files.items _ _)
     c.replies_of.ensures.same (c.in-Err-declared.ensures.failed e)))
 
 pub returns-in-Ok-print_by : goal.returns-in-Ok-print_by
@@ -34,7 +34,7 @@ returns-in-Ok-print_by g c = record {
 }
 
 pub returns : goal.returns
-returns g c = ends_failed _ _ _ _ _ _ _ _ _ _ c.in-Err-print_by.failure _ c.report.ensures
+returns g c = ends_failed _ _ _ _ _ _ _ _ _ _ c.in-Err-print_by.failure _ c.report-in-Err-print_by.ensures
     (elim c.in-Err-print_by.ensures.part [
       | inl same ↦ inl same
       | inr part ↦ inr (messages_part _ _ (g.P.Opener.reported c.args.opener.now) c.args.what.now _ c.in-Ok.other _ _ _
