@@ -40,6 +40,7 @@ returns-in_err-status-clause-fails g c =
     let e = c.from_residual-in_err-status in
     let p = err_from_is_err_and e.result e.ensures.1 in
     let at = sunk g.O.Sink.taken g.O.Sink.failures in
-    rw (p.1, p.2) (reports_close g.I.Source.failures g.I.Source.reads c.args.input (at c.args.output.now) (at c.tell_all.new.output)
+    rw (p.1, p.2) (reports_close g.I.Source.failures g.I.Source.reads c.args.input (at c.args.output.now) (at
+    c.tell_all.new.output)
     (at c.close.new.output) c.in_err-status.field-0.0
     c.in_ok-tell_all.ensures.tells.prints.unlost c.in_err-status.ensures.fails.fails)
