@@ -1,5 +1,5 @@
--- How printing the messages of a stream ends: what its exit status says.
-use Rattle.std.specs.Prelude.{◌≡◌, ◌⊎◌, ℕ, ◌≤◌, ◌==◌, Bool, true, false, List, ◌++◌, codes, Option, None, Some, String}
+-- What is printed of the messages of a stream, and the status behind that.
+use Rattle.std.specs.Prelude.{◌≡◌, ℕ, ◌==◌, Bool, true, false, List, ◌++◌, codes, Option, None, Some, String}
 use Rattle.std.specs.Prelude.{string_bytes, if◌then◌else◌}
 use Rattle.std.specs.declared.alloc.Global.{Global}
 use Rattle.std.specs.Io.KnownBytes.{Appends, Keeps}
@@ -8,7 +8,7 @@ use Rattle.oncrpc_messages.specs.Heads.{AreHeads, Heads, heads_of}
 use Rattle.oncrpc_messages.specs.declared.form.Form.{Form}
 use Rattle.oncrpc_messages.specs.declared.form.Form.TheVariants as form
 use Rattle.oncrpc_messages.specs.declared.heads.Heads as code
-use Rattle.oncrpc_tasks.specs.Sources.{Declares, DeclaresNothing}
+use Rattle.oncrpc_tasks.specs.Sources.{Declares}
 use Rattle.oncrpc_watch.specs.declared.ending.Ending.{Ending}
 use Rattle.oncrpc_watch.specs.declared.style.Style.{Style}
 use Rattle.oncrpc_watch.specs.declared.task.MessagesTask.{MessagesTask}
@@ -89,13 +89,3 @@ pub record PrintsMessages (known : List Declared) (reported : List ℕ → Optio
   pub are_heads : AreHeads heads
   pub prints : PrintsOf (terms_in known declared (heads_of heads) what.style) reported what.replies left taken taken'
       status
-
--- What the status says. 0 or 1: all messages were printed. 2: the texts have no meaning, and nothing was printed.
--- 3: a device failed. 4: memory was refused.
-pub record MessagesEnd {O : Type 0} (known : List Declared) (reported : List ℕ → Option (List ℕ))
-    (what : MessagesTask) (left : Option (List ℕ)) (taken : O → Option (List ℕ)) (output output' : O) (status : ℕ)
-    : Type 0 where
-  pub some_status : status ≤ 4
-  pub printed : (status ≡ 0) ⊎ (status ≡ 1)
-      → PrintsMessages known reported what left (taken output) (taken output') status
-  pub refused : status ≡ 2 → DeclaresNothing reported what.types × (output' ≡ output)
