@@ -64,7 +64,7 @@ _oncrpc() {
         --dialect) mapfile -t COMPREPLY < <(compgen -W "rpcgen" -- "$word") ;;
         --define) : ;;
         --replies) compopt -o filenames && mapfile -t COMPREPLY < <(compgen -f -- "$word") ;;
-        *) mapfile -t COMPREPLY < <(compgen -W "--types --dialect --define --replies --json --help" -- "$word") ;;
+        *) mapfile -t COMPREPLY < <(compgen -W "--types --dialect --define --replies --json --brief --help" -- "$word") ;;
         esac
         ;;
     capture)
@@ -73,7 +73,7 @@ _oncrpc() {
         --dialect) mapfile -t COMPREPLY < <(compgen -W "rpcgen" -- "$word") ;;
         --define) : ;;
         --port) : ;;
-        *) mapfile -t COMPREPLY < <(compgen -W "--types --dialect --define --port --json --stats --help" -- "$word") ;;
+        *) mapfile -t COMPREPLY < <(compgen -W "--types --dialect --define --port --json --stats --brief --help" -- "$word") ;;
         esac
         ((COMP_CWORD != 2)) || [[ $word == -* ]] || { compopt -o filenames && mapfile -t COMPREPLY < <(compgen -f -- "$word"); }
         ;;

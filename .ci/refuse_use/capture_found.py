@@ -9,7 +9,7 @@ import subprocess
 import tempfile
 
 from refuse_use.capture_connections import CALLS, pieces
-from refuse_use.capture_made import FROM, GETPORT, GETPORT_LINES, NOTHING, SYN, SYN_ACK, TO, at, null, null_line
+from refuse_use.capture_made import FROM, GETPORT, GETPORT_LINES, NOTHING, SYN, SYN_ACK, SYN_BIT, TO, at, null, null_line
 from refuse_use.capture_made import of_client, of_server, void
 from refuse_use.messages_streams import RPCBIND, call, counts, fragment, header, words
 from refuse_use.packets import classic
@@ -81,6 +81,8 @@ BEHIND = [
         + counts(0, 1, 0, 0, 1, 1),
     ),
 ]
+# A call whose arguments are a record themselves: they begin behind a header and 40 bytes.
+WITHIN = fragment(call(7, 200000, 1, 1, null(1)))
 FIRST = [
     (
         "records of a connection with a SYN that are no messages",
@@ -110,6 +112,20 @@ FIRST = [
         [SYN, of_client(100, pieces(GETPORT, 12) + null(2))],
         0,
         at(2, TO + GETPORT_LINES) + at(2, TO + null_line(2)) + TWO,
+    ),
+    (
+        "a SYN with a record, whose first byte has the number behind that of the SYN",
+        "",
+        [of_client(99, null(0), SYN_BIT), of_client(144, null(1))],
+        0,
+        at(1, TO + null_line(0)) + at(2, TO + null_line(1)) + TWO,
+    ),
+    (
+        "arguments that are a record themselves, in a segment of their own",
+        "",
+        [SYN, of_client(100, WITHIN[:44]), of_client(144, WITHIN[44:]), of_client(188, null(2))],
+        0,
+        at(3, TO + b"call 7 200000.1.1 AUTH_NONE, 44 bytes\n") + at(4, TO + null_line(2)) + counts(2, 0, 0, 0, 1, 0),
     ),
 ]
 

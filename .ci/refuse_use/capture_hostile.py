@@ -52,6 +52,9 @@ def lying(kept, size, total=None, number=0):
     return HEAD + bytes(made)
 
 
+# A connection with a hole of 44 bytes, and what is told of it at its end.
+OPEN = [SYN, of_client(100, null(0)), of_client(188, null(2))]
+LEFT = at(3, TO + b"missing 44 bytes\n") + at(3, TO + null_line(2)) + counts(2, 0, 0, 1, 0, 0)
 # What rows are about, words, the file, the status and the output.
 FILES = [
     ("no file of packets", "", b"oncrpc", 1, refused(b"NotACapture", 0) + BROKEN),
@@ -84,6 +87,20 @@ FILES = [
     ("the same as JSON", "--json", HEADER + record(5, 4), 1,
      b'{"type":"file","refused":"BadLength","at":24}\n'
      b'{"type":"counts","calls":0,"replies":0,"others":0,"refused":1,"unjudged":0,"unasked":0}\n'),
+    (
+        "what connections leave comes behind the line of a file that ceases to be one",
+        "",
+        classic(OPEN) + record(9, 4),
+        1,
+        at(2, TO + null_line(0)) + refused(b"BadLength", len(classic(OPEN))) + LEFT,
+    ),
+    (
+        "the same of one that is cut",
+        "",
+        classic(OPEN) + record(9, 9, b"abc"),
+        1,
+        at(2, TO + null_line(0)) + refused(b"Truncated", len(classic(OPEN))) + LEFT,
+    ),
 ]
 
 

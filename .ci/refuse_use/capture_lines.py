@@ -12,8 +12,8 @@ from refuse_use.capture_formats import FORMATS, PAIR
 from refuse_use.capture_found import found_rows
 from refuse_use.capture_further import FURTHER
 from refuse_use.capture_hostile import hostile_rows
-from refuse_use.capture_made import GETPORT, SYN, SYN_ACK, null, of_client, of_server, void
-from refuse_use.messages_streams import ROOT, RPCBIND, Sweep, counts, words
+from refuse_use.capture_made import FROM, GETPORT, PORT, SYN, SYN_ACK, TO, at, null, of_client, of_server, void
+from refuse_use.messages_streams import ROOT, RPCBIND, Sweep, call, counts, fragment, reply, words
 from refuse_use.packets import CLIENT, SERVER, classic, connections, datagram, ethernet, frames, ip4, segment, segments, udp
 from telling import tell
 from timing import LIMIT
@@ -23,6 +23,9 @@ CAPTURES = f"{ROOT}/tests/captures"
 TORN = [SYN, of_client(100, null(0) + null(1)[:20]), of_client(174, null(1)[30:] + null(2)[:9]),
         ethernet(ip4(CLIENT, SERVER, 17, udp(CLIENT, SERVER, GETPORT)[:32], fragment=0x2000))]
 LYING = [SYN, of_client(100, null(0) + words(2**32 - 1))]
+# A call of SET, a reply to it that is no bool, 20 bytes of another reply of 32, and behind these a third one.
+SET, NO_BOOL = fragment(call(9, 100000, 2, 1, words(7, 1, 6, 99))), fragment(reply(9, 0, results=words(2)))
+BEHIND = [SYN, SYN_ACK, of_client(100, SET), of_server(500, NO_BOOL + fragment(PORT)[:20]), of_server(564, void(4))]
 CLOSED = b'{"type":"counts","calls":%d,"replies":%d,"others":0,"refused":%d,"unjudged":0,"unasked":0}\n'
 NULL_JSON = b'"type":"call","xid":0,"program":100000,"version":2,"procedure":0,"name":"NULL","flavor":"AUTH_NONE","arguments":[]}\n'
 FRONT = b'{"packet":%d,"time":"1.%09d","from":"127.0.0.1:700","to":"127.0.0.1:111",'
@@ -51,6 +54,32 @@ OTHERS = [
         0,
         FRONT % (1, 0) + b'"type":"call","xid":8,"program":100000,"version":2,"procedure":3,"name":"GETPORT",'
         b'"flavor":"AUTH_NONE","arguments":[{"prog":100003,"vers":3,"prot":6,"port":0}]}\n' + CLOSED % (1, 0, 0),
+    ),
+    (
+        "a call and its reply, in brief",
+        "--brief",
+        classic(PAIR, 101),
+        0,
+        b"1 1.000000000 127.0.0.1:700 > 127.0.0.1:111 call 8 100000.2.3 GETPORT AUTH_NONE\n"
+        b"2 1.000001000 127.0.0.1:111 > 127.0.0.1:700 reply 8 100000.2.3 GETPORT SUCCESS\n" + counts(1, 1, 0, 0, 0, 0),
+    ),
+    (
+        "arguments that are refused, in brief and as JSON",
+        "--brief --json",
+        classic([datagram(CLIENT, SERVER, GETPORT + b"\0")], 101),
+        1,
+        FRONT % (1, 0) + b'"type":"call","xid":8,"program":100000,"version":2,"procedure":3,"name":"GETPORT",'
+        b'"flavor":"AUTH_NONE","refused":"MoreFollows","at":56}\n' + CLOSED % (1, 0, 1),
+    ),
+    (
+        "results that are refused, and what has no message, in brief",
+        "--brief",
+        classic(BEHIND),
+        1,
+        at(3, TO + b"call 9 100000.2.1 SET AUTH_NONE\n")
+        + at(4, FROM + b"reply 9 100000.2.1 SET SUCCESS\nrefused BadBool at 24\n")
+        + at(5, FROM + b"unfinished 20 bytes\n") + at(5, FROM + b"missing 12 bytes\n")
+        + at(5, FROM + b"reply 4 no call SUCCESS, 0 bytes\n") + counts(1, 2, 0, 1, 1, 1),
     ),
     (
         "JSON of what has no message",

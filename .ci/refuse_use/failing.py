@@ -9,7 +9,7 @@ import collections
 import contextlib
 import errno
 
-from refuse_use.keeping import Kept, call, first_growth, is_answered, is_closed, marked, no_answer, read, replied
+from refuse_use.kept import Kept, call, first_growth, is_answered, is_closed, marked, no_answer, read, replied
 from refuse_use.network_files import allow_files
 from refuse_use.turns import asking, setting
 from telling import tell

@@ -21,7 +21,7 @@ import time
 sys.dont_write_bytecode = True
 sys.path.insert(0, os.path.dirname(os.path.dirname(os.path.realpath(__file__))))
 
-from refuse_use.keeping import BEHIND, HOST, Kept, call, first_growth, is_answered, marked, read, replied
+from refuse_use.kept import BEHIND, HOST, Kept, call, first_growth, is_answered, marked, read, replied
 from refuse_use.ports import over_udp_alone
 from telling import tell
 from timing import WAIT

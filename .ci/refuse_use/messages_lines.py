@@ -3,6 +3,7 @@ import os
 import shutil
 import subprocess
 
+from refuse_use.messages_brief import BOTH_BRIEF, brief_rows
 from refuse_use.messages_hostile import hostile_rows
 from refuse_use.messages_long import further_rows
 from refuse_use.messages_recorded import recorded_rows
@@ -198,7 +199,9 @@ def messages_rows(program, folder, heap):
     yield sweep.row("an empty stream", RPCBIND, b"", (0, counts(0, 0, 0, 0, 0, 0)), 1)
     for what, line, given, *wanted in ROWS:
         yield sweep.row(what, line, given, tuple(wanted))
+    yield from brief_rows(sweep)
     yield from both_rows(sweep, BOTH)
+    yield from both_rows(sweep, BOTH_BRIEF, "--brief ")
     said = named(program, f"{folder}/watched")
     yield tell("messages of tests/captures/libnfs.pcap", not said, said, "as tshark names them")
     yield from beside_installed(f"{folder}/watched/bin/oncrpc", folder)
@@ -207,9 +210,9 @@ def messages_rows(program, folder, heap):
     yield from further_rows(sweep)
 
 
-def both_rows(sweep, rows):
+def both_rows(sweep, rows, brief=""):
     """Rows with a file of the other direction. Its growths are counted from where both streams are empty."""
-    line, file = f"--replies replies.bin {RPCBIND}", f"{sweep.folder}/replies.bin"
+    line, file = f"{brief}--replies replies.bin {RPCBIND}", f"{sweep.folder}/replies.bin"
     with open(file, "wb"):
         begin = sweep.first(line)
     for what, replies, given, *wanted in rows:

@@ -13,7 +13,7 @@ import time
 
 from refuse_use.answering import Server
 from refuse_use.called import HOST, marked, opaque, run, success, words
-from refuse_use.keeping import call, is_answered, is_closed, read, replied
+from refuse_use.kept import call, is_answered, is_closed, read, replied
 from refuse_use.network_asked import CALLS, COUNTED, ENDLESS, ENDLESS_LINE, FILES, INFOS, KEPT, PINGS, long_calls
 from refuse_use.network_called import called_rows
 from refuse_use.network_files import allow_files, warning

@@ -13,7 +13,7 @@ import socket
 
 from refuse_use.afar import SET, SET_UDP, TOO_WEAK, TRUE, call, success, text
 from refuse_use.called import HOST
-from refuse_use.keeping import call as call_of_null, is_answered, marked, read, replied
+from refuse_use.kept import call as call_of_null, is_answered, marked, read, replied
 from refuse_use.network_running import Clock, Network, Running, port_in
 from timing import SOON, WAIT
 

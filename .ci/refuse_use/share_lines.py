@@ -7,7 +7,7 @@ import shlex
 import subprocess
 import tempfile
 
-from refuse_use.keeping import Kept, is_answered
+from refuse_use.kept import Kept, is_answered
 from refuse_use.local import at_path
 from refuse_use.network_files import BESIDE, CONNECTIONS
 from refuse_use.recorded import RECORDED, SERVED

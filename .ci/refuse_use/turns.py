@@ -17,7 +17,7 @@ import tempfile
 import termios
 import threading
 
-from refuse_use.keeping import (
+from refuse_use.kept import (
     HOST,
     Kept,
     call,

@@ -250,6 +250,15 @@ MESSAGES = [
         b"call 7 6.1.1 B AUTH_NONE\nreply 7 6.1.1 B SUCCESS\n" + counts(1, 1),
         b"",
     ),
+    (
+        ["messages", "--json", "--brief", "--types=b"],
+        {"b": DECLARED},
+        called(6),
+        0,
+        b'{"type":"call","xid":7,"program":6,"version":1,"procedure":1,"name":"B","flavor":"AUTH_NONE"}\n'
+        b'{"type":"counts","calls":1,"replies":0,"others":0,"refused":0,"unjudged":0,"unasked":0}\n',
+        b"",
+    ),
 ]
 # What a call has behind the header of its record, and a datagram with it.
 ASKED = called(6)[4:]
@@ -319,6 +328,8 @@ REFUSED = [
     ["capture"],
     ["capture", "-", "--port", "65536"],
     ["capture", "-", "c.pcap"],
+    ["capture", "-", "--brief", "--stats"],
+    ["messages", "--brief=1"],
     ["info"],
     ["info", "localhost"],
     ["info", "localhost", "65536"],

@@ -157,6 +157,7 @@ OF_SERVE = [
 ]
 OF_MESSAGES = [
     b"\n  call XID P.V.N NAME FLAVOR",
+    b"--brief ",
     b"\n  refused WHY at N",
     b"\n  0  nothing is refused\n",
     b"\n    $ (printf",
@@ -166,6 +167,7 @@ OF_CAPTURE = [
     b" <FILE>",
     b"--port <N>",
     b"--stats",
+    b"--brief ",
     b"\n  missing N bytes ",
     b"\n  refused WHY at N",
     b"\n  file refused WHY at N",

@@ -64,7 +64,8 @@ def capture(path, size):
 
 
 def captured(_base, folder):
-    """The counts of a capture, and its lines, beside fields of tshark; and what ours has resident."""
+    """The counts of a capture, its lines in brief, of which tshark's fields are the like, and all values; and what ours
+    has resident."""
     path = f"{folder}/read.pcap"
     calls, size = capture(path, SIZE), os.path.getsize(path)
     ours = [OURS, "capture", path, "--types", f"{ROOT}/share/oncrpc/nfs.x"]
@@ -72,7 +73,7 @@ def captured(_base, folder):
     if shutil.which("tshark"):
         fields = [f"-e{it}" for it in ("frame.number", "rpc.xid", "rpc.msgtyp", "rpc.procedure", "nfs.status3")]
         other = wall(["tshark", "-r", path, "-n", "-T", "fields", *fields, "-Y", "rpc"], os.devnull, 1)[0]
-    for name, more in (("counts", ["--stats"]), ("lines", [])):
+    for name, more in (("counts", ["--stats"]), ("lines in brief", ["--brief"]), ("lines with all values", [])):
         taken, _ = wall([*ours, *more], os.devnull, 3)
         line = f"capture, {calls} READs in {size / 1e9:.2f} GB, {name}: {size / taken / 1e6:.0f} MB a second"
         beside = f", {other / taken:.1f} times tshark's fields, wanted {WANTED}" if other else ", tshark is not installed"

@@ -5,7 +5,7 @@ use crate::files::FileOpener;
 use crate::installed::installed_texts;
 use oncrpc_answers::{Failure, report};
 use oncrpc_capture::capture_over;
-use oncrpc_watch::{Known, messages_over};
+use oncrpc_watch::{Known, Style, messages_over};
 use oncrpc_words::{CaptureTask, MessagesTask};
 use xdr_io::{FromRead, Sink};
 
@@ -32,7 +32,10 @@ pub fn messages<O: Sink, F: Sink>(
     let task = oncrpc_watch::MessagesTask {
         types: what.types,
         replies: what.replies,
-        json: what.json,
+        style: Style {
+            json: what.json,
+            brief: what.brief,
+        },
     };
     let input = FromRead::new(rt.stdin());
     messages_over(known, &task, &mut opener, input, output, faults)
@@ -62,7 +65,10 @@ pub fn capture<O: Sink, F: Sink>(
         file: what.file,
         types: what.types,
         ports: what.ports,
-        json: what.json,
+        style: Style {
+            json: what.json,
+            brief: what.brief,
+        },
         stats: what.stats,
     };
     let input = FromRead::new(rt.stdin());

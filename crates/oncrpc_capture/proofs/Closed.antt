@@ -13,14 +13,16 @@ use Rattle.oncrpc_watch.specs.MessagesEnd.{status_of, terms_in}
 use Rattle.oncrpc_watch.specs.Represents.{IsAt}
 use Rattle.oncrpc_watch.specs.Run.{nothing}
 use Rattle.oncrpc_watch.specs.Terms.{Terms, terms_of}
+use Rattle.oncrpc_capture.specs.declared.flows.Flows.{Flows}
 use Rattle.oncrpc_capture.specs.declared.printing.Printing.{Printing}
 use Rattle.oncrpc_capture.specs.declared.task.CaptureTask.{CaptureTask}
 use Rattle.oncrpc_capture.specs.Brought.{BringAll, of_ending}
 use Rattle.oncrpc_capture.specs.CaptureEnd.{PrintsCapture, PrintsNamed, PrintsPackets}
+use Rattle.oncrpc_capture.specs.Connections.{AreHeard, segments_in}
 use Rattle.oncrpc_capture.specs.Entries.{Entry, FileRefused}
 use Rattle.oncrpc_capture.specs.Files.{Ceases, CeasesAt, IsReadOut, Whole, reason_name}
-use Rattle.oncrpc_capture.specs.Private.Steps.{Closes, HasRead, IsBrokenOff, IsOpened, Prints, PrintsBy}
-use Rattle.oncrpc_capture.specs.Private.Steps.{PrintsSome, given_of}
+use Rattle.oncrpc_capture.specs.Private.Steps.{Closes, Goes, HasRead, IsBrokenOff, IsOpened, Prints, PrintsBy}
+use Rattle.oncrpc_capture.specs.Private.Steps.{PrintsOf, given_of}
 use Rattle.oncrpc_capture.proofs.Printed.{prints_all, prints_join}
 
 -- ---- the end of a file
@@ -51,8 +53,8 @@ refused_inside reason.NoMemory at left more = tt
 -- a whole file, and what is printed last
 pub read_whole : (ports bytes : List ℕ) (p mid q : Printing) (left rest a b c : Option (List ℕ))
     (packets : List PacketView) (entries : List Entry) → Consumes left rest bytes → IsCapture bytes packets
-    → IsAtEnd rest → BringAll ports 1 packets entries → Prints p mid entries a b → PrintsSome mid q b c
-    → HasRead p q ports left a c
+    → IsAtEnd rest → BringAll ports [] 1 packets entries → Prints p mid entries a b
+    → PrintsOf (AreHeard (segments_in packets)) mid q b c → HasRead p q ports left a c
 read_whole ports bytes p mid q left rest a b c packets entries read file out brings prints last = record {
   packets = packets;
   ending = Whole;
@@ -60,14 +62,16 @@ read_whole ports bytes p mid q left rest a b c packets entries read file out bri
   last = last.entries;
   file = record { bytes = bytes; rest = rest; read = read; file = file; out = out };
   brings = brings;
+  heard = last.those;
   prints = prints_join p mid q entries last.entries a b c prints last.prints;
 }
 
 -- one that ends inside a record or a block, which is printed, and what is printed last
 pub read_cut : (ports bytes : List ℕ) (p mid end q : Printing) (left rest a b c d : Option (List ℕ))
     (packets : List PacketView) (entries : List Entry) (why : CaptureReason) (at : ℕ) → Consumes left rest bytes
-    → CeasesAt why at bytes packets → IsAtEnd rest → BringAll ports 1 packets entries → Prints p mid entries a b
-    → Prints mid end (FileRefused (reason_name why) at ∷ []) b c → PrintsSome end q c d → HasRead p q ports left a d
+    → CeasesAt why at bytes packets → IsAtEnd rest → BringAll ports [] 1 packets entries
+    → Prints p mid entries a b → Prints mid end (FileRefused (reason_name why) at ∷ []) b c
+    → PrintsOf (AreHeard (segments_in packets)) end q c d → HasRead p q ports left a d
 read_cut ports bytes p mid end q left rest a b c d packets entries why at read file out brings prints one last =
     record {
       packets = packets;
@@ -76,31 +80,35 @@ read_cut ports bytes p mid end q left rest a b c d packets entries why at read f
       last = last.entries;
       file = record { bytes = bytes; rest = rest; read = read; file = file; out = at_end why at rest out };
       brings = brings;
+      heard = last.those;
       prints = prints_join p mid q entries (FileRefused (reason_name why) at ∷ [] ++ last.entries) a b d prints
           (prints_join mid end q (FileRefused (reason_name why) at ∷ []) last.entries b c d one last.prints);
     }
 
 -- one that ceases to be a capture inside of it, and what is printed last
-pub read_broken : (ports bytes : List ℕ) (p mid q : Printing) (left rest a b c : Option (List ℕ))
-    → Consumes left rest bytes → IsBrokenOff bytes ports p mid a b → PrintsSome mid q b c → HasRead p q ports left a c
-read_broken ports bytes p mid q left rest a b c read h last = record {
-  packets = h.packets;
-  ending = Ceases h.why h.at;
-  brought = h.entries;
-  last = last.entries;
-  file = record {
-    bytes = bytes;
-    rest = rest;
-    read = read;
-    file = h.ceases;
-    out = refused_inside h.why h.at rest h.more;
-  };
-  brings = h.brings;
-  prints = subst (λ (es : List Entry). Prints p q es a c)
-      (append_assoc h.entries (FileRefused (reason_name h.why) h.at ∷ []) last.entries)
-      (prints_join p mid q (h.entries ++ FileRefused (reason_name h.why) h.at ∷ []) last.entries a b c h.prints
-      last.prints);
-}
+pub read_broken : (ports bytes : List ℕ) (f g : Flows) (p mid q : Printing) (left rest a b c : Option (List ℕ))
+    → Consumes left rest bytes → IsBrokenOff bytes ports f p mid a b → Goes f g mid q b c → HasRead p q ports left a c
+read_broken ports bytes f g p mid q left rest a b c read h goes =
+    let last = (goes.goes (segments_in h.packets) h.follow).0 in
+    record {
+      packets = h.packets;
+      ending = Ceases h.why h.at;
+      brought = h.entries;
+      last = last.entries;
+      heard = last.those;
+      file = record {
+        bytes = bytes;
+        rest = rest;
+        read = read;
+        file = h.ceases;
+        out = refused_inside h.why h.at rest h.more;
+      };
+      brings = h.brings;
+      prints = subst (λ (es : List Entry). Prints p q es a c)
+          (append_assoc h.entries (FileRefused (reason_name h.why) h.at ∷ []) last.entries)
+          (prints_join p mid q (h.entries ++ FileRefused (reason_name h.why) h.at ∷ []) last.entries a b c h.prints
+          last.prints);
+    }
 
 -- ---- the whole
 
@@ -114,6 +122,7 @@ prints_packets p q ports left a b c status begun r y is = record {
   last = r.last;
   file = r.file;
   brings = r.brings;
+  heard = r.heard;
   prints = prints_all p q (r.brought ++ (of_ending r.ending ++ r.last)) a b c status begun r.prints y is;
 }
 
@@ -162,6 +171,6 @@ prints_capture left_of known reported what declared file left taken taken' statu
   heads = p.heads;
   declares = d;
   are_heads = p.are_heads;
-  prints = prints_named left_of reported (terms_in known declared (heads_of p.heads) what.json) what file left taken
+  prints = prints_named left_of reported (terms_in known declared (heads_of p.heads) what.style) what file left taken
       taken' status opened p.prints;
 }

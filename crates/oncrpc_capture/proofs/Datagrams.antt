@@ -1,23 +1,27 @@
 -- What a packet brings.
-use Rattle.std.proofs.Common.{◌≡◌, ◌⊎◌, ℕ, zero, suc, Bool, true, false, List, [], ◌∷◌, Option, inl, inr, refl, sym}
+use Rattle.std.proofs.Common.{◌≡◌, ◌⊎◌, ℕ, zero, suc, Bool, true, false, List, [], ◌∷◌, ◌++◌, Option}
+use Rattle.std.proofs.Common.{inl, inr, refl, sym}
 use Rattle.std.proofs.Common.{◌∙◌, subst, arith}
 use Rattle.std.proofs.lemmas.Bool.{false≢true}
+use Rattle.std.proofs.lemmas.List.{append-nil}
 use Rattle.std.specs.Prelude.{◌↔◌, IsTrue, OnOk, Result}
 use Rattle.oncrpc_answers.specs.declared.failure.Failure.{Failure}
 use Rattle.capture_packets.specs.declared.reason.Reason.{Reason}
-use Rattle.capture_packets.specs.Packet.{DatagramView, PacketView, SegmentView}
+use Rattle.capture_packets.specs.Packet.{DatagramView, PacketView, SegmentView, Datagram, Other, Segment}
+use Rattle.oncrpc_capture.specs.declared.flows.Flows.{Flows}
 use Rattle.oncrpc_capture.specs.declared.printing.Printing.{Printing}
 use Rattle.oncrpc_capture.specs.declared.seen.Seen.{Seen}
-use Rattle.oncrpc_capture.specs.declared.told.Told.TheVariants.{Missing}
-use Rattle.oncrpc_capture.specs.Brought.{BringsBy, BringsDatagram, BringsOther, BringsSegment, IsMessage}
+use Rattle.capture_records.specs.declared.told.Told.TheVariants.{Missing}
+use Rattle.oncrpc_capture.specs.Brought.{BringsDatagram, BringsOther, IsMessage}
 use Rattle.oncrpc_capture.specs.Brought.{IsToldBy, SaysSome, is_wanted}
 use Rattle.oncrpc_capture.specs.Entries.{Entry, Message, Note}
 use Rattle.oncrpc_capture.specs.Nodes.{IsSeen}
 use Rattle.oncrpc_capture.specs.Notes.{is_unread, told_name}
-use Rattle.oncrpc_capture.specs.Private.Steps.{MayTell, Prints, PrintsOf, PrintsSome}
-use Rattle.oncrpc_capture.proofs.Printed.{of_some, prints_none}
+use Rattle.oncrpc_capture.specs.Private.Follows.{Follow}
+use Rattle.oncrpc_capture.specs.Private.Steps.{GoesBy, GoesFrom, MayTell, Prints, PrintsOf}
+use Rattle.oncrpc_capture.proofs.Printed.{on_ok, prints_none}
 
-both : (b : Bool) → b ≡ true → b ≡ false → ⊥
+pub both : (b : Bool) → b ≡ true → b ≡ false → ⊥
 both b t f = false≢true (sym f ∙ t)
 
 -- ---- a datagram
@@ -86,17 +90,7 @@ datagram_brings ports frame d p q a b is_message w is h = record {
   prints = h.prints;
 }
 
--- ---- a segment, and a packet that carries neither
-
-pub segment_unwanted : (ports : List ℕ) (s : SegmentView) (p : Printing) (a : Option (List ℕ))
-    → PrintsOf (λ es. BringsSegment ports s es) p p a a
-segment_unwanted ports s p a = record { entries = []; those = λ e. refl; prints = prints_none p a }
-
-pub segment_some : (ports : List ℕ) (s : SegmentView) (p q : Printing) (a b : Option (List ℕ))
-    → is_wanted ports s.from.port s.to.port ≡ true → PrintsSome p q a b
-    → PrintsOf (λ es. BringsSegment ports s es) p q a b
-segment_some ports s p q a b w h = of_some (λ es. BringsSegment ports s es) p q a b
-    (λ es e. absurd (both (is_wanted ports s.from.port s.to.port) w e)) h
+-- ---- a packet that carries neither
 
 pub other_untold : (frame : ℕ) (why : Reason) (p : Printing) (a : Option (List ℕ)) → is_unread why ≡ false
     → PrintsOf (λ es. BringsOther (is_unread why) frame why es) p p a a
@@ -106,9 +100,52 @@ other_untold frame why p a e = record {
   prints = prints_none p a;
 }
 
--- what a packet brings, by an equal view of it
-pub brings_as : (ports : List ℕ) (frame : ℕ) (p q : Printing) (a b : Option (List ℕ)) (r : Result (Unit {0}) Failure)
-    (v w : PacketView) → v ≡ w → OnOk r (PrintsOf (λ es. BringsBy ports frame v es) p q a b)
-    → OnOk r (PrintsOf (λ es. BringsBy ports frame w es) p q a b)
-brings_as ports frame p q a b r v w e h =
-    subst (λ (x : PacketView). OnOk r (PrintsOf (λ es. BringsBy ports frame x es) p q a b)) e h
+-- ---- what a packet brings, by what it carries
+
+-- by an equal view of it
+goes_as : (ports : List ℕ) (frame : ℕ) (f g : Flows) (p q : Printing) (a b : Option (List ℕ))
+    (r : Result (Unit {0}) Failure) (v w : PacketView) → v ≡ w → OnOk r (GoesFrom ports frame v f g p q a b)
+    → OnOk r (GoesFrom ports frame w f g p q a b)
+goes_as ports frame f g p q a b r v w e h =
+    subst (λ (x : PacketView). OnOk r (GoesFrom ports frame x f g p q a b)) e h
+
+-- a packet without a segment
+module _ (ports : List ℕ) (frame : ℕ) (f g : Flows) (p q : Printing) (a b : Option (List ℕ)) (same : g ≡ f) where
+  follow_same : (earlier : List SegmentView) → Follow earlier f → Follow (earlier ++ []) g
+  follow_same earlier h =
+      subst (λ (x : Flows). Follow (earlier ++ []) x) (sym same)
+      (subst (λ (x : List SegmentView). Follow x f) (sym (append-nil earlier)) h)
+
+  from_datagram : (d : DatagramView) → PrintsOf (λ es. BringsDatagram ports frame d es) p q a b
+      → GoesFrom ports frame (Datagram d) f g p q a b
+  from_datagram d h = record {
+    goes = λ earlier k.
+        (record { entries = h.entries; those = h.those; prints = h.prints }, follow_same earlier k);
+  }
+
+  from_other : (why : Reason) → PrintsOf (λ es. BringsOther (is_unread why) frame why es) p q a b
+      → GoesFrom ports frame (Other why) f g p q a b
+  from_other why h = record {
+    goes = λ earlier k.
+        (record { entries = h.entries; those = h.those; prints = h.prints }, follow_same earlier k);
+  }
+
+  pub datagram_goes : (r : Result (Unit {0}) Failure) (d : DatagramView) (w : PacketView) → Datagram d ≡ w
+      → OnOk r (PrintsOf (λ es. BringsDatagram ports frame d es) p q a b)
+      → OnOk r (GoesFrom ports frame w f g p q a b)
+  datagram_goes r d w e h = goes_as ports frame f g p q a b r (Datagram d) w e (on_ok r (from_datagram d) h)
+
+  pub other_goes : (r : Result (Unit {0}) Failure) (why : Reason) (w : PacketView) → Other why ≡ w
+      → OnOk r (PrintsOf (λ es. BringsOther (is_unread why) frame why es) p q a b)
+      → OnOk r (GoesFrom ports frame w f g p q a b)
+  other_goes r why w e h = goes_as ports frame f g p q a b r (Other why) w e (on_ok r (from_other why) h)
+
+from_segment : (ports : List ℕ) (frame : ℕ) (f g : Flows) (p q : Printing) (a b : Option (List ℕ)) (s : SegmentView)
+    → GoesBy ports s f g p q a b → GoesFrom ports frame (Segment s) f g p q a b
+from_segment ports frame f g p q a b s h = record { goes = h.goes }
+
+pub segment_goes : (ports : List ℕ) (frame : ℕ) (f g : Flows) (p q : Printing) (a b : Option (List ℕ))
+    (r : Result (Unit {0}) Failure) (s : SegmentView) (w : PacketView) → Segment s ≡ w
+    → OnOk r (GoesBy ports s f g p q a b) → OnOk r (GoesFrom ports frame w f g p q a b)
+segment_goes ports frame f g p q a b r s w e h =
+    goes_as ports frame f g p q a b r (Segment s) w e (on_ok r (from_segment ports frame f g p q a b s) h)

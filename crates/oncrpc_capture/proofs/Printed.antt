@@ -23,7 +23,7 @@ use Rattle.oncrpc_capture.specs.declared.seen.Seen.{Seen}
 use Rattle.oncrpc_capture.specs.CaptureEnd.{PrintsAll}
 use Rattle.oncrpc_capture.specs.Entries.{Entry, FileRefused, Message, Note, TooLong, Unread, TellsEntries, TellsEntry}
 use Rattle.oncrpc_capture.specs.Entries.{TellsMessage, place_of, refused_too}
-use Rattle.oncrpc_capture.specs.Private.Steps.{Closes, Prints, PrintsOf, PrintsSome, PutsTables}
+use Rattle.oncrpc_capture.specs.Private.Steps.{Closes, Prints, PutsTables}
 use Rattle.oncrpc_capture.specs.Texts.{behind, front_text, note_text, unread_text}
 
 tells_join : (t : Terms) (b : Bool) (s mid new : State) (xs ys : List Entry) (u v : List ℕ)
@@ -74,20 +74,6 @@ prints_join p q r xs ys a b c x y = record {
         written = Appends-trans a b c one.text two.text (one.text ++ two.text) refl one.written two.written;
       };
 }
-
-pub some_none : (p : Printing) (t : Option (List ℕ)) → PrintsSome p p t t
-some_none p t = record { entries = []; prints = prints_none p t }
-
-pub some_join : (p q r : Printing) (a b c : Option (List ℕ)) → PrintsSome p q a b → PrintsSome q r b c
-    → PrintsSome p r a c
-some_join p q r a b c x y = record {
-  entries = x.entries ++ y.entries;
-  prints = prints_join p q r x.entries y.entries a b c x.prints y.prints;
-}
-
-pub of_some : (are : List Entry → Type 0) (p q : Printing) (a b : Option (List ℕ)) → ((es : List Entry) → are es)
-    → PrintsSome p q a b → PrintsOf are p q a b
-of_some are p q a b all x = record { entries = x.entries; those = all x.entries; prints = x.prints }
 
 -- what holds of a call that answers well
 pub on_ok : {A B : Type 0} (r : Result (Unit {0}) Failure) → (A → B) → OnOk r A → OnOk r B

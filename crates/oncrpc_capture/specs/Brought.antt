@@ -1,5 +1,5 @@
--- What the packets of a file bring: of a datagram one message (RFC 768, RFC 5531 section 9), and a line of a packet
--- that is not read. What segments of TCP bring is any here, where their ports are wanted.
+-- What the packets of a file bring: of a datagram one message (RFC 768, RFC 5531 section 9), of segments of TCP records
+-- that stand in what they gave (RFC 9293 section 3.4, RFC 5531 section 11), and a line of a packet that is not read.
 use Rattle.std.specs.Prelude.{◌≡◌, ◌⊎◌, ℕ, zero, suc, ◌^◌, ◌<◌, ◌==◌, ◌||◌, Bool, true, false, List, [], ◌∷◌, ◌++◌}
 use Rattle.std.specs.Prelude.{length}
 use Rattle.std.specs.List.{list_any}
@@ -11,7 +11,8 @@ use Rattle.capture_packets.specs.Packet.{DatagramView, SegmentView, PacketView, 
 use Rattle.capture_packets.specs.Packets.{packet_of}
 use Rattle.oncrpc_messages.specs.Messages.{SaysReply}
 use Rattle.oncrpc_capture.specs.declared.seen.Seen.{Seen}
-use Rattle.oncrpc_capture.specs.declared.told.Told.TheVariants.{Missing}
+use Rattle.capture_records.specs.declared.told.Told.TheVariants.{Missing}
+use Rattle.oncrpc_capture.specs.Connections.{AreHeard, segments_of}
 use Rattle.oncrpc_capture.specs.Entries.{Entry, FileRefused, Message, Note, Unread}
 use Rattle.oncrpc_capture.specs.Files.{FileEnding, Whole, Ceases, reason_name}
 use Rattle.oncrpc_capture.specs.Nodes.{IsSeen}
@@ -53,31 +54,37 @@ pub record BringsDatagram (ports : List ℕ) (frame : ℕ) (d : DatagramView) (e
   pub message : is_wanted ports d.from.port d.to.port ≡ true → IsMessage ports d → IsTold frame d entries
   pub other : (entries ≡ []) ⊎ (IsTold frame d entries × (IsMessage ports d ⊎ SaysSome d.content))
 
--- what a segment brings: nothing, where its ports are not wanted
-abbrev pub BringsSegment : (ports : List ℕ) → SegmentView → List Entry → Type 0
-BringsSegment ports s entries = is_wanted ports s.from.port s.to.port ≡ false → entries ≡ []
+-- What a segment brings, behind those before it in the file: nothing, where its ports are not wanted. Each message
+-- stands in what segments gave that went from and to the nodes that are told with it.
+pub record BringsSegment (ports : List ℕ) (earlier : List SegmentView) (s : SegmentView) (entries : List Entry)
+    : Type 0 where
+  pub unwanted : is_wanted ports s.from.port s.to.port ≡ false → entries ≡ []
+  pub heard : AreHeard (earlier ++ s ∷ []) entries
 
 -- what a packet brings that carries neither
 abbrev pub BringsOther : (is_told : Bool) → (frame : ℕ) → Reason → List Entry → Type 0
 BringsOther true frame why entries = (time : ℕ) × (entries ≡ Unread frame time (why_unread why) ∷ [])
 BringsOther false frame why entries = entries ≡ []
 
--- what a packet brings, by what it carries
-abbrev pub BringsBy : (ports : List ℕ) → (frame : ℕ) → PacketView → List Entry → Type 0
-BringsBy ports frame (Datagram d) entries = BringsDatagram ports frame d entries
-BringsBy ports frame (Segment s) entries = BringsSegment ports s entries
-BringsBy ports frame (Other why) entries = BringsOther (is_unread why) frame why entries
+-- what a packet brings, by what it carries, and by the segments before it
+abbrev pub BringsBy : (ports : List ℕ) → (earlier : List SegmentView) → (frame : ℕ) → PacketView → List Entry → Type 0
+BringsBy ports earlier frame (Datagram d) entries = BringsDatagram ports frame d entries
+BringsBy ports earlier frame (Segment s) entries = BringsSegment ports earlier s entries
+BringsBy ports earlier frame (Other why) entries = BringsOther (is_unread why) frame why entries
 
 -- what the packet of this number brings
-abbrev pub Brings : (ports : List ℕ) → (frame : ℕ) → file.PacketView → List Entry → Type 0
-Brings ports frame p entries = BringsBy ports frame (packet_of p.link p.content) entries
+abbrev pub Brings : (ports : List ℕ) → (earlier : List SegmentView) → (frame : ℕ) → file.PacketView → List Entry
+    → Type 0
+Brings ports earlier frame p entries = BringsBy ports earlier frame (packet_of p.link p.content) entries
 
--- what packets bring, one after another, of which the first has this number
-unfoldable pub BringAll : (ports : List ℕ) → (number : ℕ) → List file.PacketView → List Entry → Type 0
-BringAll ports number [] entries = entries ≡ []
-BringAll ports number (p ∷ ps) entries =
-    (first : List Entry) × (rest : List Entry) × Brings ports (capped number) p first
-    × BringAll ports (suc number) ps rest × (entries ≡ first ++ rest)
+-- what packets bring, one after another, of which the first has this number and stands behind these segments
+unfoldable pub BringAll : (ports : List ℕ) → (earlier : List SegmentView) → (number : ℕ) → List file.PacketView
+    → List Entry → Type 0
+BringAll ports earlier number [] entries = entries ≡ []
+BringAll ports earlier number (p ∷ ps) entries =
+    (first : List Entry) × (rest : List Entry) × Brings ports earlier (capped number) p first
+    × BringAll ports (earlier ++ segments_of (packet_of p.link p.content)) (suc number) ps rest
+    × (entries ≡ first ++ rest)
 
 -- what comes of the end of a file: why it is refused, where it is
 abbrev pub of_ending : FileEnding → List Entry

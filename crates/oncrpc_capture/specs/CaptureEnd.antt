@@ -12,6 +12,7 @@ use Rattle.oncrpc_watch.specs.Run.{State, nothing}
 use Rattle.oncrpc_watch.specs.Terms.{Terms}
 use Rattle.oncrpc_capture.specs.declared.task.CaptureTask.{CaptureTask}
 use Rattle.oncrpc_capture.specs.Brought.{BringAll, of_ending}
+use Rattle.oncrpc_capture.specs.Connections.{AreHeard, segments_in}
 use Rattle.oncrpc_capture.specs.Entries.{Entry, TellsEntries}
 use Rattle.oncrpc_capture.specs.Files.{FileEnding, IsReadFile}
 
@@ -28,7 +29,7 @@ pub record PrintsAll (t : Terms) (stats : Bool) (entries : List Entry) (taken ta
   pub status_is : status ≡ status_of state.counts.refused
 
 -- What had this left was read as a file. What its packets bring was printed, and then why it is refused, where it is.
--- What is printed last is of connections over TCP that end with the file, and any here.
+-- What is printed last is of connections over TCP that end with the file: each message stands in what segments gave.
 pub record PrintsPackets (t : Terms) (ports : List ℕ) (stats : Bool) (left taken taken' : Option (List ℕ)) (status : ℕ)
     : Type 0 where
   pub packets : List PacketView
@@ -36,7 +37,8 @@ pub record PrintsPackets (t : Terms) (ports : List ℕ) (stats : Bool) (left tak
   pub brought : List Entry
   pub last : List Entry
   pub file : IsReadFile left packets ending
-  pub brings : BringAll ports 1 packets brought
+  pub brings : BringAll ports [] 1 packets brought
+  pub heard : AreHeard (segments_in packets) last
   pub prints : PrintsAll t stats (brought ++ (of_ending ending ++ last)) taken taken' status
 
 -- The same of what the words name: the input by `-`, or a file, of which this is reported.
@@ -54,7 +56,7 @@ pub record PrintsCapture (known : List Declared) (reported : List ℕ → Option
   pub heads : code.Heads
   pub declares : Declares reported what.types declared
   pub are_heads : AreHeads heads
-  pub prints : PrintsNamed (terms_in known declared (heads_of heads) what.json) reported what left taken taken' status
+  pub prints : PrintsNamed (terms_in known declared (heads_of heads) what.style) reported what left taken taken' status
 
 -- What the status says. 0 or 1: what came of the capture was printed. 2: the texts have no meaning, and nothing was
 -- printed. 3: a device failed. 4: memory was refused.

@@ -1,5 +1,6 @@
 pub mod Brought
 pub mod CaptureEnd
+pub mod Connections
 pub mod Entries
 pub mod Files
 pub mod Nodes

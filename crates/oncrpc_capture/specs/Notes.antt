@@ -2,8 +2,8 @@
 use Rattle.std.specs.Prelude.{ℕ, Bool, true, false, List, codes}
 use Rattle.capture_packets.specs.declared.reason.Reason.{Reason}
 use Rattle.capture_packets.specs.declared.reason.Reason.TheVariants as reason
-use Rattle.oncrpc_capture.specs.declared.told.Told.{Told}
-use Rattle.oncrpc_capture.specs.declared.told.Told.TheVariants as told
+use Rattle.capture_records.specs.declared.told.Told.{Told}
+use Rattle.capture_records.specs.declared.told.Told.TheVariants as told
 
 -- the word of what is said of bytes
 abbrev pub told_name : Told → List ℕ

@@ -12,7 +12,7 @@ use crate::task::CaptureTask;
 use oncrpc_answers::{Failure, report};
 use oncrpc_messages::{Form, Heads, read_heads};
 use oncrpc_tasks::{Opener, declared, refuse_texts};
-use oncrpc_watch::{Known, Terms, Watch};
+use oncrpc_watch::{Known, Style, Terms, Watch};
 use xdr_io::{Sink, Source};
 use xdr_lang::Declared;
 use xdr_types::Limits;
@@ -74,7 +74,7 @@ fn print_by<R: Source + Drop, I: Source + Drop, O: Sink>(
         (declared_of declared.now) what.now file (I.left input) (O.taken output.old) (O.taken output.new) status) }
 {
     let heads = read_heads(known.alloc)?;
-    let terms = terms_by(known, declared, &heads, what.json);
+    let terms = terms_by(known, declared, &heads, what.style);
     match file {
         None => {
             let status = print_of(&terms, known, what, input, output)?;
@@ -88,16 +88,22 @@ fn print_by<R: Source + Drop, I: Source + Drop, O: Sink>(
 }
 
 // By what messages are judged and printed.
-fn terms_by<'a>(known: Known<'a>, declared: &'a Declared, heads: &'a Heads, json: bool) -> Terms<'a>
+fn terms_by<'a>(
+    known: Known<'a>,
+    declared: &'a Declared,
+    heads: &'a Heads,
+    style: Style,
+) -> Terms<'a>
     ensures { terms_of result ≡ terms_in (each_declared known.entry.texts.now) (declared_of declared.now)
-        (heads_of heads.now) json }
+        (heads_of heads.now) style }
 {
     Terms {
         declared,
         known: known.texts,
         heads,
         limits: Limits::new(4096, 16777216).unwrap(),
-        form: form_of(json),
+        form: form_of(style.json),
+        brief: style.brief,
     }
 }
 

@@ -39,6 +39,7 @@ pub struct Desk<'a> {
 impl<'a> Desk<'a> {
     ghost use Rattle.std.specs.Prelude.{◌≡◌, ◌≤◌, IfOk, is_some};
     ghost use Rattle.oncrpc_capture.specs.CaptureEnd.{PrintsPackets};
+    ghost use Rattle.oncrpc_capture.specs.Private.Follows.{Begun};
     ghost use Rattle.oncrpc_watch.specs.Represents.{IsAt};
     ghost use Rattle.oncrpc_watch.specs.Run.{nothing};
     ghost use Rattle.oncrpc_watch.specs.Terms.{terms_of};
@@ -49,6 +50,7 @@ impl<'a> Desk<'a> {
         ensures watch { result.printing.watch ≡ watch.entry }
         ensures stats { is_some result.printing.stats ≡ stats }
         ensures frame { result.frame ≡ 0 }
+        ensures begun { Begun result.flows }
     {
         Desk {
             alloc,
@@ -69,6 +71,7 @@ impl<'a> Desk<'a> {
     ) -> Result<u8, Failure>
         requires first { self.old.frame ≡ 0 }
         requires nothing { IsAt self.old.printing.watch nothing }
+        requires begun { Begun self.old.flows }
         ensures few { IfOk result (λ status. status ≤ 1) }
         ensures prints { IfOk result (λ status. PrintsPackets (terms_of self.old.printing.watch.terms)
             self.old.ports.now (is_some self.old.printing.stats) (I.left source) (O.taken output.old)

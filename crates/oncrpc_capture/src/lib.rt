@@ -2,8 +2,8 @@
 //! printed and judged, and the exit status.
 //!
 //! - `capture`: the call, by `task`, which is what the words ask for. `desk`: goes through the packets of the file.
-//! - `pairs`: who talks to whom. `flows`: those who do so over TCP, each with both directions. `side`: one direction,
-//!   put together by `sequence` numbers, of which a `step` comes; `finding` finds the first record behind a hole.
+//! - `pairs`: who talks to whom. `flows`: those who do so over TCP, each a `flow` of two directions. `finding` tells
+//!   where bytes begin as a call does.
 //! - `printing`: where what is found goes, by `text`, or into `stats`. `seen`: when and from whom it came. `told`: what
 //!   is said of bytes without a message. `clock`: times of captures.
 #![tactic(auto)]
@@ -12,14 +12,12 @@ mod capture;
 mod clock;
 mod desk;
 mod finding;
+mod flow;
 mod flows;
 mod pairs;
 mod printing;
 mod seen;
-mod sequence;
-mod side;
 mod stats;
-mod step;
 mod task;
 mod text;
 mod told;

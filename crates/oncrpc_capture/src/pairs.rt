@@ -1,4 +1,7 @@
 //! Who talks to whom.
+ghost use Rattle.std.specs.Prelude.{◌≡◌};
+ghost use Rattle.oncrpc_capture.specs.Private.Follows.{from_of, to_of};
+
 use crate::seen::Seen;
 use std::alloc::{AllocError, Global};
 use std::collections::BTreeMap;
@@ -15,7 +18,10 @@ pub struct Pair {
 }
 
 /// Who talks to whom in a packet, and whether the lower node sends it.
-pub fn pair_of(seen: Seen) -> (Pair, bool) {
+pub fn pair_of(seen: Seen) -> (Pair, bool)
+    ensures from { from_of result.0 result.1 ≡ seen.from }
+    ensures to { to_of result.0 result.1 ≡ seen.to }
+{
     let Seen { from, to, .. } = seen;
     if from <= to {
         let pair = Pair {
@@ -29,6 +35,18 @@ pub fn pair_of(seen: Seen) -> (Pair, bool) {
             high: from,
         };
         (pair, false)
+    }
+}
+
+/// Who sends to whom, where the lower node sends or the higher.
+pub fn nodes(pair: Pair, up: bool) -> (SocketAddr, SocketAddr)
+    ensures from { result.0 ≡ from_of pair up }
+    ensures to { result.1 ≡ to_of pair up }
+{
+    if up {
+        (pair.low, pair.high)
+    } else {
+        (pair.high, pair.low)
     }
 }
 

@@ -2,8 +2,9 @@
 use crate::seen::Seen;
 use crate::stats::Stats;
 use crate::text::{front_text, joined, note_text, place_of, refused_text, unread_text};
-use crate::told::{Told, told_name, why_unread};
+use crate::told::{told_name, why_unread};
 use capture_packets::Reason;
+use capture_records::Told;
 use oncrpc_answers::Failure;
 use oncrpc_messages::{Page, Verdict, close_page};
 use oncrpc_watch::{Watch, counts_line};
@@ -25,7 +26,7 @@ impl<'a> Printing<'a> {
     ghost use Rattle.oncrpc_messages.specs.Closing.{closed};
     ghost use Rattle.oncrpc_capture.specs.Entries.{FileRefused, Message, Note, TooLong, Unread, place_of};
     ghost use Rattle.oncrpc_capture.specs.Notes.{told_name, why_unread};
-    ghost use Rattle.oncrpc_capture.specs.Private.Steps.{Closes, Prints, PrintsOf, PrintsSome, PutsTables};
+    ghost use Rattle.oncrpc_capture.specs.Private.Steps.{Closes, Prints, PrintsHeard, PrintsOf, PutsTables};
     ghost use Rattle.oncrpc_capture.specs.Brought.{IsToldBy, SaysSome};
     ghost use Rattle.oncrpc_capture.specs.Texts.{behind, front_text, note_text, unread_text};
 
@@ -155,7 +156,7 @@ impl<'a> Printing<'a> {
         said: Option<(Told, u64)>,
         output: &mut O,
     ) -> Result<(), Failure>
-        ensures { OnOk result (PrintsSome self.old self.new (O.taken output.old) (O.taken output.new)) }
+        ensures { OnOk result (PrintsHeard self.old self.new (O.taken output.old) (O.taken output.new)) }
     {
         match said {
             Some((told, count)) => self.note(seen, told, count, output),

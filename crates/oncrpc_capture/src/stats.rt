@@ -2,8 +2,8 @@
 ghost use Rattle.std.specs.Prelude.{◌<◌, IfSome};
 
 use crate::seen::Seen;
-use crate::told::Told;
 use capture_packets::Reason as PacketReason;
+use capture_records::Told;
 use oncrpc_messages::{Asked, Found, Said, Verdict, Why};
 use std::alloc::{AllocError, Global};
 use std::collections::BTreeMap;

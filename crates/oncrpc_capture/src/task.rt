@@ -1,5 +1,6 @@
 //! What the words of `capture` ask for.
 use oncrpc_answers::Texts;
+use oncrpc_watch::Style;
 
 /// A capture to be read.
 #[derive(PartialEq, Eq, Drop)]
@@ -10,8 +11,8 @@ pub struct CaptureTask {
     pub types: Texts,
     /// The ports whose traffic is RPC. Without any it is what looks like it.
     pub ports: Vec<u16>,
-    /// Whether each message is a line of JSON.
-    pub json: bool,
+    /// How messages are printed.
+    pub style: Style,
     /// Whether counts are printed in place of messages.
     pub stats: bool,
 }

@@ -3,19 +3,7 @@ ghost use Rattle.std.specs.Prelude.{◌≡◌};
 ghost use Rattle.oncrpc_capture.specs.Notes.{told_name, why_unread, is_unread};
 
 use capture_packets::Reason;
-
-/// What is said of so many bytes of a direction, or of a datagram.
-#[derive(Clone, Copy, Debug, PartialEq, Eq)]
-pub enum Told {
-    /// The capture does not have them.
-    Missing,
-    /// They are of a record whose end is not there.
-    Unfinished,
-    /// They stand before the next record that was found, or before the end where none was.
-    Passed,
-    /// They were held, and all directions together held too much.
-    Dropped,
-}
+use capture_records::Told;
 
 /// The word of it.
 pub fn told_name(told: Told) -> &'static str

@@ -1,20 +1,22 @@
 -- What is made of a text that is put together of others.
-use Rattle.std.proofs.Common.{◌≡◌, ℕ, ◌-◌, List, [], ◌++◌, length, Option, None, Some, refl, ap, ◌∙◌, subst}
+use Rattle.std.proofs.Common.{◌≡◌, ℕ, ◌-◌, Bool, true, false, List, [], ◌++◌, length, Option, None, Some, refl, ap}
+use Rattle.std.proofs.Common.{◌∙◌, subst}
 use Rattle.std.specs.Prelude.{option_map}
 use Rattle.rpc_message.specs.Message.{CallView, ReplyView}
 use Rattle.rpc_message.specs.Spelling.{CallBytes, ReplyBytes}
 use Rattle.xdr_lang.specs.Declarations.{Procedure}
 use Rattle.oncrpc_messages.specs.declared.asked.Asked.{Asked}
+use Rattle.oncrpc_messages.specs.declared.form.Form.{Form}
 use Rattle.oncrpc_messages.specs.declared.refusal.Refusal.{Refusal}
 use Rattle.oncrpc_messages.specs.declared.refusal.Verdict.{Verdict}
 use Rattle.oncrpc_messages.specs.declared.show.Show.{Show}
 use Rattle.oncrpc_messages.specs.declared.show.Show.TheVariants as show
 use Rattle.oncrpc_messages.specs.Asked.{declared_in, name_in}
-use Rattle.oncrpc_messages.specs.Bodies.{TellsFields}
+use Rattle.oncrpc_messages.specs.Bodies.{TellsFields, body_text, values_text}
 use Rattle.oncrpc_messages.specs.Lines.{call_front, cred_text, reply_front}
 use Rattle.oncrpc_messages.specs.Messages.{TellsArgumentsOf, TellsCall, TellsEnding, TellsReply, declared_of_call}
 use Rattle.oncrpc_messages.specs.Messages.{results_of_call}
-use Rattle.oncrpc_messages.specs.Private.Kept.{IsKept, IsKeptPart, kept}
+use Rattle.oncrpc_messages.specs.Private.Kept.{IsKept, IsKeptPart, kept, values_show}
 use Rattle.oncrpc_messages.specs.Settings.{Settings}
 
 -- nothing is made of nothing
@@ -32,6 +34,13 @@ pub kept_with : (s : Show) (around : List ℕ → List ℕ) (made text : List �
     → kept s (around made) ≡ kept s (around text)
 kept_with show.Text around made text is = ap around is
 kept_with show.Nothing around made text is = refl
+
+-- of the text of values, of which nothing is made where messages are printed in brief
+pub kept_body : (brief : Bool) (s : Show) (f : Form) (call : Bool) (made text : List ℕ)
+    → made ≡ kept (values_show brief s) text
+    → kept s (body_text brief f call made) ≡ kept s (body_text brief f call text)
+kept_body true s f call made text is = refl
+kept_body false s f call made text is = kept_with s (λ (x : List ℕ). values_text f call x) made text is
 
 same_part : (part : Option (List ℕ)) → option_map (λ (t : List ℕ). t) part ≡ part
 same_part None = refl

@@ -31,6 +31,11 @@ abbrev pub nothing_text : Form → List ℕ
 nothing_text form.Lines = codes "\n"
 nothing_text form.Json = []
 
+-- values in their place, or nothing more, where messages are printed in brief
+abbrev pub body_text : (brief : Bool) → Form → (call : Bool) → (values : List ℕ) → List ℕ
+body_text true form call values = nothing_text form
+body_text false form call values = values_text form call values
+
 -- what is printed of bytes that begin at a place of the message: values of these kinds, or why they are none; without
 -- kinds their count, and they are not judged
 abbrev pub TellsBody : Settings → (call : Bool) → (places : Option (List ℕ)) → (start : ℕ) → (bytes text : List ℕ)
@@ -39,7 +44,7 @@ TellsBody s call None start bytes text verdict.Unjudged = text ≡ unjudged_text
 TellsBody s call (Some places) start bytes text verdict.Canonical =
     (values : List ℕ)
     × AreShown s.form s.declared.schema.kinds s.limits true places bytes values
-    × (text ≡ values_text s.form call values)
+    × (text ≡ body_text s.brief s.form call values)
 TellsBody s call (Some places) start bytes text (verdict.Refused r) =
     (at : ℕ) × AreRefused s.declared.schema.kinds s.limits places bytes r.why at × (r.at ≡ start + at)
     × (text ≡ nothing_text s.form)

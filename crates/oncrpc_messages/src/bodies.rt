@@ -1,8 +1,9 @@
 //! What is printed of arguments and results, where that is wanted.
 ghost use Rattle.std.specs.Prelude.{◌≡◌, ◌+◌, ◌++◌, ◌<◌, ◌^◌, IfOk, IfSome, OnOk, length, option_map, string_bytes};
 ghost use Rattle.xdr_lang.specs.Views.{places};
-ghost use Rattle.oncrpc_messages.specs.Bodies.{TellsBody, nothing_text, unjudged_text, values_key, values_text};
-ghost use Rattle.oncrpc_messages.specs.Private.Kept.{IsKept, kept};
+ghost use Rattle.oncrpc_messages.specs.Bodies.{TellsBody, body_text, nothing_text, unjudged_text};
+ghost use Rattle.oncrpc_messages.specs.Bodies.{values_key, values_text};
+ghost use Rattle.oncrpc_messages.specs.Private.Kept.{IsKept, kept, values_show};
 ghost use Rattle.oncrpc_messages.specs.Private.Told.{AreKinds};
 ghost use Rattle.oncrpc_messages.specs.Settings.{settings_of};
 
@@ -47,7 +48,7 @@ pub fn body_of(
         schema: &settings.declared.schema,
         limits: settings.limits,
         form: settings.form,
-        show: reading.show,
+        show: values_show(reading),
     };
     match values_of(alloc, &terms, kinds, bytes)? {
         Values::Shown(values) => Ok(Body {
@@ -110,7 +111,18 @@ fn unjudged_text(alloc: Global, form: Form, count: usize) -> Result<String, Allo
     }
 }
 
-// Values in their place, where that is wanted.
+// What is made of the text of values: nothing, where messages are printed in brief.
+fn values_show(reading: &Reading<'_, '_>) -> Show
+    ensures { result ≡ values_show reading.now.settings.now.brief reading.now.show }
+{
+    if reading.settings.brief {
+        Show::Nothing
+    } else {
+        reading.show
+    }
+}
+
+// Values in their place, or nothing more, where messages are printed in brief.
 fn values_body(
     alloc: Global,
     reading: &Reading<'_, '_>,
@@ -118,8 +130,12 @@ fn values_body(
     values: &[u8],
 ) -> Result<Vec<u8>, AllocError>
     ensures { IfOk result (λ text. text.items
-        ≡ kept reading.now.show (values_text reading.now.settings.now.form call values.now)) }
+        ≡ kept reading.now.show
+        (body_text reading.now.settings.now.brief reading.now.settings.now.form call values.now)) }
 {
+    if reading.settings.brief {
+        return nothing_body(alloc, reading);
+    }
     match reading.show {
         Show::Text => values_text(alloc, reading.settings.form, call, values),
         Show::Nothing => Ok(Vec::new(alloc)),

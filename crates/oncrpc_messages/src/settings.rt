@@ -5,7 +5,7 @@ use crate::show::Show;
 use xdr_lang::Declared;
 use xdr_types::Limits;
 
-/// What is declared, the types of heads, the limits on each value, and how messages are printed.
+/// What is declared, the types of heads, the limits on each value, how messages are printed, and how much of them.
 #[derive(Clone, Copy)]
 pub struct Settings<'a> {
     /// The programs, and the kinds of their arguments and results.
@@ -16,6 +16,8 @@ pub struct Settings<'a> {
     pub limits: Limits,
     /// How messages are printed.
     pub form: Form,
+    /// Whether nothing is printed of arguments and results that are values.
+    pub brief: bool,
 }
 
 /// How a message is read, and whether its text is made.

@@ -1,12 +1,12 @@
 -- What comes and is printed, one after another.
-use Rattle.std.proofs.Common.{◌≡◌, ◌⊎◌, ℕ, Bool, true, false, List, [], ◌∷◌, ◌++◌, Option, refl, sym, ap, ◌∙◌, subst}
+use Rattle.std.proofs.Common.{◌≡◌, ◌⊎◌, ℕ, Bool, true, false, List, [], ◌∷◌, ◌++◌, refl, sym, ap, ◌∙◌, subst}
 use Rattle.std.proofs.Common.{inl, inr, append_assoc}
 use Rattle.std.proofs.lemmas.List.{append-nil}
-use Rattle.xdr_io.proofs.Chained.{Appends-none, Appends-trans}
+use Rattle.xdr_io.proofs.Chained.{Appends-none, Appends-trans, Counts-none, Counts-trans}
 use Rattle.oncrpc_watch.specs.declared.watch.Watch.{Watch}
 use Rattle.oncrpc_watch.specs.Events.{Event, Joins, Record, TellsEvents}
-use Rattle.oncrpc_watch.specs.Private.Steps.{GoesOn, IsStanding, Prints, Reached, Reads, Stands, TellsBoth, TellsOn}
-use Rattle.oncrpc_watch.specs.Private.Steps.{unprinted}
+use Rattle.oncrpc_watch.specs.Private.Steps.{GoesOn, IsStanding, Prints, Reached, Reads, Stands, Sunk, TellsBoth}
+use Rattle.oncrpc_watch.specs.Private.Steps.{TellsOn, unprinted}
 use Rattle.oncrpc_watch.specs.Represents.{IsAt}
 use Rattle.oncrpc_watch.specs.Run.{State}
 use Rattle.oncrpc_watch.specs.Terms.{Terms, terms_of}
@@ -27,7 +27,7 @@ tells_join t s mid new (e ∷ es) ys a b (m, first, rest, one, more, is) q = (
   ap (λ (x : List ℕ). x ++ b) is ∙ append_assoc first rest b,
 )
 
-pub prints_none : (w : Watch) (t : Option (List ℕ)) → Prints w w [] t t
+pub prints_none : (w : Watch) (t : Sunk) → Prints w w [] t t
 prints_none w t = record {
   same = refl;
   prints = λ s h. record {
@@ -35,11 +35,12 @@ prints_none w t = record {
     text = [];
     tells = (refl, refl);
     is_at = h;
-    written = Appends-none t;
+    written = Appends-none t.taken;
   };
+  unlost = Counts-none t.lost;
 }
 
-pub prints_join : (u v w : Watch) (xs ys : List Event) (a b c : Option (List ℕ)) → Prints u v xs a b
+pub prints_join : (u v w : Watch) (xs ys : List Event) (a b c : Sunk) → Prints u v xs a b
     → Prints v w ys b c → Prints u w (xs ++ ys) a c
 prints_join u v w xs ys a b c p q = record {
   same = q.same ∙ p.same;
@@ -52,8 +53,10 @@ prints_join u v w xs ys a b c p q = record {
         tells = tells_join (terms_of u.terms) s one.state two.state xs ys one.text two.text one.tells
             (subst (λ x. TellsEvents (terms_of x) one.state ys two.state two.text) p.same two.tells);
         is_at = two.is_at;
-        written = Appends-trans a b c one.text two.text (one.text ++ two.text) refl one.written two.written;
+        written = Appends-trans a.taken b.taken c.taken one.text two.text (one.text ++ two.text) refl one.written
+            two.written;
       };
+  unlost = Counts-trans a.lost b.lost c.lost 0 0 0 refl p.unlost q.unlost;
 }
 
 -- ---- where streams are
@@ -62,6 +65,7 @@ pub goes_none : (r : Reached) → GoesOn r r []
 goes_none r = record {
   name = refl;
   on = λ left events h. subst (λ (x : List Event). Stands r left x) (sym (append-nil events)) h;
+  sound = λ failures reads s. s;
 }
 
 pub goes_join : (p q r : Reached) (xs ys : List Event) → GoesOn p q xs → GoesOn q r ys → GoesOn p r (xs ++ ys)
@@ -69,6 +73,7 @@ goes_join p q r xs ys a b = record {
   name = b.name ∙ a.name;
   on = λ left events h. subst (λ (x : List Event). Stands r left x) (append_assoc events xs ys)
       (b.on left (events ++ xs) (a.on left events h));
+  sound = λ failures reads s. b.sound failures reads (a.sound failures reads s);
 }
 
 pub goes_standing : (p q : Reached) (xs : List Event) → GoesOn p q xs → IsStanding p → IsStanding q
@@ -111,10 +116,10 @@ joins_second xs ys (z ∷ zs) more (inr (rest, is, j)) =
 
 -- ---- what came of a stream and was printed
 
-pub tells_none : (r : Reached) (w : Watch) (t : Option (List ℕ)) → TellsOn r r w w t t
+pub tells_none : (r : Reached) (w : Watch) (t : Sunk) → TellsOn r r w w t t
 tells_none r w t = record { events = []; on = goes_none r; prints = prints_none w t }
 
-pub tells_more : (p q r : Reached) (u v w : Watch) (a b c : Option (List ℕ)) → TellsOn p q u v a b
+pub tells_more : (p q r : Reached) (u v w : Watch) (a b c : Sunk) → TellsOn p q u v a b
     → TellsOn q r v w b c → TellsOn p r u w a c
 tells_more p q r u v w a b c x y = record {
   events = x.events ++ y.events;
@@ -123,7 +128,7 @@ tells_more p q r u v w a b c x y = record {
 }
 
 -- what was read, and then the record that was there
-pub reads_told : (p q r : Reached) (bytes : List ℕ) (u v w : Watch) (a b c : Option (List ℕ))
+pub reads_told : (p q r : Reached) (bytes : List ℕ) (u v w : Watch) (a b c : Sunk)
     → Reads true p q bytes u v a b → r ≡ q → Prints v w (Record bytes ∷ []) b c → TellsOn p r u w a c
 reads_told p q r bytes u v w a b c x same y = record {
   events = x.events ++ Record bytes ∷ [];
@@ -132,7 +137,7 @@ reads_told p q r bytes u v w a b c x same y = record {
 }
 
 -- nothing more was there
-pub reads_ended : (p q : Reached) (bytes : List ℕ) (u v : Watch) (a b : Option (List ℕ))
+pub reads_ended : (p q : Reached) (bytes : List ℕ) (u v : Watch) (a b : Sunk)
     → Reads false p q bytes u v a b → TellsOn p q u v a b
 reads_ended p q bytes u v a b x = record {
   events = x.events;
@@ -140,13 +145,13 @@ reads_ended p q bytes u v a b x = record {
   prints = x.prints;
 }
 
-pub reads_standing : (more : Bool) (p q : Reached) (bytes : List ℕ) (u v : Watch) (a b : Option (List ℕ))
+pub reads_standing : (more : Bool) (p q : Reached) (bytes : List ℕ) (u v : Watch) (a b : Sunk)
     → Reads more p q bytes u v a b → IsStanding p → IsStanding q
 reads_standing more p q bytes u v a b x h = goes_standing p q (x.events ++ unprinted more bytes) x.on h
 
 -- ---- what came of two streams and was printed
 
-pub both_none : (p q : Reached) (w : Watch) (t : Option (List ℕ)) → TellsBoth p p q q w w t t
+pub both_none : (p q : Reached) (w : Watch) (t : Sunk) → TellsBoth p p q q w w t t
 both_none p q w t = record {
   of_calls = [];
   of_replies = [];
@@ -158,7 +163,7 @@ both_none p q w t = record {
 }
 
 -- more of the first
-pub both_first : (c d e p q : Reached) (u v w : Watch) (x y z : Option (List ℕ)) → TellsBoth c d p q u v x y
+pub both_first : (c d e p q : Reached) (u v w : Watch) (x y z : Sunk) → TellsBoth c d p q u v x y
     → TellsOn d e v w y z → TellsBoth c e p q u w x z
 both_first c d e p q u v w x y z h k = record {
   of_calls = h.of_calls ++ k.events;
@@ -171,7 +176,7 @@ both_first c d e p q u v w x y z h k = record {
 }
 
 -- more of the second
-pub both_second : (c d p q r : Reached) (u v w : Watch) (x y z : Option (List ℕ)) → TellsBoth c d p q u v x y
+pub both_second : (c d p q r : Reached) (u v w : Watch) (x y z : Sunk) → TellsBoth c d p q u v x y
     → TellsOn q r v w y z → TellsBoth c d p r u w x z
 both_second c d p q r u v w x y z h k = record {
   of_calls = h.of_calls;
@@ -184,7 +189,7 @@ both_second c d p q r u v w x y z h k = record {
 }
 
 -- a reply that was read, more of the calls, and then that reply
-pub both_reply : (c d e p q r s : Reached) (bytes : List ℕ) (u v v' v'' w : Watch) (a b b' b'' z : Option (List ℕ))
+pub both_reply : (c d e p q r s : Reached) (bytes : List ℕ) (u v v' v'' w : Watch) (a b b' b'' z : Sunk)
     → TellsBoth c d p q u v a b → Reads true q r bytes v v' b b' → TellsOn d e v' v'' b' b'' → s ≡ r
     → Prints v'' w (Record bytes ∷ []) b'' z → TellsBoth c e p s u w a z
 both_reply c d e p q r s bytes u v v' v'' w a b b' b'' z h x k same y =

@@ -1,7 +1,11 @@
 pub mod Answered
+pub mod Begun
 pub mod Closed
+pub mod Ended
+pub mod Errors
 pub mod Joined
 pub mod Numbers
 pub mod Recalled
+pub mod Stopped
 pub mod Streamed
 pub mod Texts

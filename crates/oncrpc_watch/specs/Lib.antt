@@ -1,5 +1,6 @@
 pub mod Apart
 pub mod Counted
+pub mod Ends
 pub mod Events
 pub mod Heard
 pub mod Lines
@@ -7,6 +8,7 @@ pub mod MessagesEnd
 pub mod Private
 pub mod Represents
 pub mod Run
+pub mod Stopped
 pub mod Streams
 pub mod Terms
 pub mod Waiting

@@ -1,5 +1,5 @@
--- How printing the messages of a stream ends: what its exit status says.
-use Rattle.std.specs.Prelude.{◌≡◌, ◌⊎◌, ℕ, ◌≤◌, ◌==◌, Bool, true, false, List, ◌++◌, codes, Option, None, Some, String}
+-- What is printed of the messages of a stream, and the status behind that.
+use Rattle.std.specs.Prelude.{◌≡◌, ℕ, ◌==◌, Bool, true, false, List, ◌++◌, codes, Option, None, Some, String}
 use Rattle.std.specs.Prelude.{string_bytes, if◌then◌else◌}
 use Rattle.std.specs.declared.alloc.Global.{Global}
 use Rattle.std.specs.Io.KnownBytes.{Appends, Keeps}
@@ -8,8 +8,9 @@ use Rattle.oncrpc_messages.specs.Heads.{AreHeads, Heads, heads_of}
 use Rattle.oncrpc_messages.specs.declared.form.Form.{Form}
 use Rattle.oncrpc_messages.specs.declared.form.Form.TheVariants as form
 use Rattle.oncrpc_messages.specs.declared.heads.Heads as code
-use Rattle.oncrpc_tasks.specs.Sources.{Declares, DeclaresNothing}
+use Rattle.oncrpc_tasks.specs.Sources.{Declares}
 use Rattle.oncrpc_watch.specs.declared.ending.Ending.{Ending}
+use Rattle.oncrpc_watch.specs.declared.style.Style.{Style}
 use Rattle.oncrpc_watch.specs.declared.task.MessagesTask.{MessagesTask}
 use Rattle.oncrpc_watch.specs.Events.{Event, Joins, TellsEvents}
 use Rattle.oncrpc_watch.specs.Lines.{counts_line}
@@ -23,13 +24,14 @@ form_of true = form.Json
 form_of false = form.Lines
 
 -- by what messages are judged and printed, within the greatest limits
-abbrev pub terms_in : List Declared → Declared → Heads → (json : Bool) → Terms
-terms_in known declared heads json = record {
+abbrev pub terms_in : List Declared → Declared → Heads → Style → Terms
+terms_in known declared heads style = record {
   declared = declared;
   known = known;
   heads = heads;
   limits = record { depth = 4096; bytes = 16777216 };
-  form = form_of json;
+  form = form_of style.json;
+  brief = style.brief;
 }
 
 -- the status says whether anything was refused
@@ -85,15 +87,5 @@ pub record PrintsMessages (known : List Declared) (reported : List ℕ → Optio
   pub heads : code.Heads
   pub declares : Declares reported what.types declared
   pub are_heads : AreHeads heads
-  pub prints : PrintsOf (terms_in known declared (heads_of heads) what.json) reported what.replies left taken taken'
+  pub prints : PrintsOf (terms_in known declared (heads_of heads) what.style) reported what.replies left taken taken'
       status
-
--- What the status says. 0 or 1: all messages were printed. 2: the texts have no meaning, and nothing was printed.
--- 3: a device failed. 4: memory was refused.
-pub record MessagesEnd {O : Type 0} (known : List Declared) (reported : List ℕ → Option (List ℕ))
-    (what : MessagesTask) (left : Option (List ℕ)) (taken : O → Option (List ℕ)) (output output' : O) (status : ℕ)
-    : Type 0 where
-  pub some_status : status ≤ 4
-  pub printed : (status ≡ 0) ⊎ (status ≡ 1)
-      → PrintsMessages known reported what left (taken output) (taken output') status
-  pub refused : status ≡ 2 → DeclaresNothing reported what.types × (output' ≡ output)

@@ -11,13 +11,14 @@ use Rattle.oncrpc_messages.specs.declared.form.Form.{Form}
 use Rattle.oncrpc_watch.specs.declared.terms.Terms as code
 
 -- What the words' texts declare as one, what other texts declare, each by itself, the types of heads, the limits on
--- each value, and whether lines or JSON is printed.
+-- each value, whether lines or JSON is printed, and whether nothing is of arguments and results that are values.
 pub record Terms : Type 0 where
   pub declared : Declared
   pub known : List Declared
   pub heads : Heads
   pub limits : Bounds
   pub form : Form
+  pub brief : Bool
 
 -- what each of these texts declares
 abbrev pub each_declared : List code_declared.Declared → List Declared
@@ -30,6 +31,7 @@ terms_of t = record {
   heads = heads_of t.heads.now;
   limits = t.limits;
   form = t.form;
+  brief = t.brief;
 }
 
 -- whether a program with this number is declared (RFC 5531 section 12.3)
@@ -52,4 +54,5 @@ settings_by t program = record {
   heads = t.heads;
   limits = t.limits;
   form = t.form;
+  brief = t.brief;
 }

@@ -1,6 +1,6 @@
 //! The messages of both directions of a connection.
-ghost use Rattle.std.specs.Prelude.{◌≡◌, true, OnOk};
-ghost use Rattle.oncrpc_watch.specs.Private.Steps.{IsStanding, TellsBoth, TellsOn, reached};
+ghost use Rattle.std.specs.Prelude.{◌≡◌, true, IfErr, OnOk};
+ghost use Rattle.oncrpc_watch.specs.Private.Steps.{IsStanding, StopsBoth, StopsOn, TellsBoth, TellsOn, reached, sunk};
 
 use crate::stream::{Stream, WAY};
 use crate::watch::Watch;
@@ -15,17 +15,17 @@ pub fn tell_both<I: Source, R: Source, O: Sink>(
     replies: &mut Stream<R>,
     output: &mut O,
 ) -> Result<(), Failure>
-    requires calls { IsStanding
-        (reached calls.old.ended calls.old.records calls.old.name.now (I.left calls.old.source.source)) }
-    requires replies { IsStanding
-        (reached replies.old.ended replies.old.records replies.old.name.now (R.left replies.old.source.source)) }
+    requires calls { IsStanding (reached I.left I.failures I.reads calls.old) }
+    requires replies { IsStanding (reached R.left R.failures R.reads replies.old) }
     ensures tells { OnOk result (TellsBoth
-        (reached calls.old.ended calls.old.records calls.old.name.now (I.left calls.old.source.source))
-        (reached calls.new.ended calls.new.records calls.new.name.now (I.left calls.new.source.source))
-        (reached replies.old.ended replies.old.records replies.old.name.now (R.left replies.old.source.source))
-        (reached replies.new.ended replies.new.records replies.new.name.now (R.left replies.new.source.source))
-        watch.old watch.new (O.taken output.old) (O.taken output.new)) }
+        (reached I.left I.failures I.reads calls.old) (reached I.left I.failures I.reads calls.new)
+        (reached R.left R.failures R.reads replies.old) (reached R.left R.failures R.reads replies.new)
+        watch.old watch.new (sunk O.taken O.failures output.old) (sunk O.taken O.failures output.new)) }
     ensures ended { OnOk result ((calls.new.ended ≡ true) × (replies.new.ended ≡ true)) }
+    ensures stops { IfErr result (λ f. StopsBoth
+        (reached I.left I.failures I.reads calls.old) (reached I.left I.failures I.reads calls.new)
+        (reached R.left R.failures R.reads replies.old) (reached R.left R.failures R.reads replies.new)
+        watch.old (sunk O.taken O.failures output.old) (sunk O.taken O.failures output.new) f) }
 {
     'replies: loop {
         match replies.next(watch, output) {
@@ -48,12 +48,13 @@ fn read_on<I: Source, O: Sink>(
     reply: &[u8],
     output: &mut O,
 ) -> Result<(), Failure>
-    requires { IsStanding
-        (reached calls.old.ended calls.old.records calls.old.name.now (I.left calls.old.source.source)) }
-    ensures { OnOk result (TellsOn
-        (reached calls.old.ended calls.old.records calls.old.name.now (I.left calls.old.source.source))
-        (reached calls.new.ended calls.new.records calls.new.name.now (I.left calls.new.source.source))
-        watch.old watch.new (O.taken output.old) (O.taken output.new)) }
+    requires { IsStanding (reached I.left I.failures I.reads calls.old) }
+    ensures tells { OnOk result (TellsOn
+        (reached I.left I.failures I.reads calls.old) (reached I.left I.failures I.reads calls.new)
+        watch.old watch.new (sunk O.taken O.failures output.old) (sunk O.taken O.failures output.new)) }
+    ensures stops { IfErr result (λ f. StopsOn
+        (reached I.left I.failures I.reads calls.old) (reached I.left I.failures I.reads calls.new)
+        watch.old (sunk O.taken O.failures output.old) (sunk O.taken O.failures output.new) f) }
 {
     'calls: loop {
         if watch.spare() == 0 || !watch.is_unasked(WAY, reply) {

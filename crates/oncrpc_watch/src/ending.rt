@@ -1,6 +1,7 @@
 //! The line of a stream that ends inside a record.
-ghost use Rattle.std.specs.Prelude.{◌≡◌, IfOk, string_bytes};
+ghost use Rattle.std.specs.Prelude.{◌≡◌, IfErr, IfOk, string_bytes};
 ghost use Rattle.oncrpc_watch.specs.Events.{ending_line, stream_line};
+ghost use Rattle.oncrpc_watch.specs.Private.Steps.{FailsFrom};
 ghost use Rattle.oncrpc_watch.specs.Streams.{fault_of};
 
 use oncrpc_answers::Failure;
@@ -19,7 +20,8 @@ pub enum Ending {
 
 /// What is refused of a stream, or what failed.
 pub fn ending_of(fault: RecordFault) -> Result<Ending, Failure>
-    ensures { IfOk result (λ e. fault ≡ fault_of e) }
+    ensures refused { IfOk result (λ e. fault ≡ fault_of e) }
+    ensures failed { IfErr result (λ f. FailsFrom fault f) }
 {
     match fault {
         RecordFault::TooLong { at } => Ok(Ending::TooLong { at }),

@@ -1,8 +1,8 @@
 //! The engine of `oncrpc messages`, over readers and writers. The messages of a stream of records, or of both
 //! directions of a connection, are printed and judged.
 //!
-//! - `messages`: the call. `task`: what the words ask for. `both`: two directions, each reply behind its call.
-//!   `stream`: one direction, whose records are told by their `ending` line at last.
+//! - `messages`: the call. `task`: what the words ask for, and in which `style`. `both`: two directions, each reply
+//!   behind its call. `stream`: one direction, whose records are told by their `ending` line at last.
 //! - `watch`: a message told or judged, by `terms`, with the call to which it answers; `counts` and the closing line of
 //!   them.
 //! - `table`: the calls that wait, by the way that they went and by their xid, of which the newest are kept, each under
@@ -18,6 +18,7 @@ mod key;
 mod messages;
 mod placed;
 mod stream;
+mod style;
 mod table;
 mod task;
 mod terms;
@@ -25,6 +26,7 @@ mod watch;
 
 pub use counts::{Counts, counts_line};
 pub use messages::messages_over;
+pub use style::Style;
 pub use table::{CallTable, MOST_CALLS};
 pub use task::{Known, MessagesTask};
 pub use terms::Terms;

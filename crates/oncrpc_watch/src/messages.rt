@@ -1,9 +1,13 @@
 //! The messages of a stream of records, printed and judged.
-ghost use Rattle.std.specs.Prelude.{◌≡◌, ◌≤◌, ℕ, List, Option, IfOk};
+ghost use Rattle.std.specs.Prelude.{◌≡◌, ◌≤◌, ◌⊎◌, ℕ, List, Option, IfErr, IfOk, OnErr, OnOk};
+ghost use Rattle.xdr_io.specs.Reported.{Counts};
 ghost use Rattle.xdr_lang.specs.Views.{declared_of};
 ghost use Rattle.oncrpc_messages.specs.Heads.{heads_of};
-ghost use Rattle.oncrpc_watch.specs.MessagesEnd.{MessagesEnd, PrintsBoth, PrintsInput, form_of, terms_in};
-ghost use Rattle.oncrpc_watch.specs.Private.Steps.{Closes, IsOpened, PrintsBy, PrintsIn};
+ghost use Rattle.oncrpc_watch.specs.Ends.{MessagesEnd};
+ghost use Rattle.oncrpc_watch.specs.MessagesEnd.{PrintsBoth, PrintsInput, form_of, terms_in};
+ghost use Rattle.oncrpc_watch.specs.Private.Steps.{CloseFails, Closes, IsOpened, IsUnopened, PrintsBy, PrintsIn};
+ghost use Rattle.oncrpc_watch.specs.Private.Steps.{PrintsPartBy, PrintsPartIn, Reports, ReportsOther, sunk};
+ghost use Rattle.oncrpc_watch.specs.Stopped.{PrintsBothPart, PrintsInputPart};
 ghost use Rattle.oncrpc_watch.specs.Represents.{IsAt};
 ghost use Rattle.oncrpc_watch.specs.Run.{nothing};
 ghost use Rattle.oncrpc_watch.specs.Terms.{each_declared, terms_of};
@@ -11,6 +15,7 @@ ghost use Rattle.oncrpc_watch.specs.Terms.{each_declared, terms_of};
 use crate::both::tell_both;
 use crate::counts::counts_line;
 use crate::stream::Stream;
+use crate::style::Style;
 use crate::task::{Known, MessagesTask};
 use crate::terms::Terms;
 use crate::watch::Watch;
@@ -25,7 +30,8 @@ use xdr_types::Limits;
 /// Prints each message of the input, and of the file with the other direction, and a closing line of counts. A reply is
 /// read by the kinds of the call of its xid. With a second file its messages are printed as soon as their calls are
 /// known: the input is read on for that while at most 65536 calls wait. The status is 0, or 1 where anything was
-/// refused. It is 2 for texts that are refused, 3 where a device failed, and 4 for an allocation failure.
+/// refused. It is 2 for texts that are refused, 3 where a device failed or more than 1048576 reads would be needed, and
+/// 4 for an allocation failure. At 3 and 4 what was printed is a beginning of what would be.
 pub fn messages_over<P: Opener, I: Source + Drop, O: Sink, F: Sink>(
     known: Known<'_>,
     what: &MessagesTask,
@@ -35,7 +41,15 @@ pub fn messages_over<P: Opener, I: Source + Drop, O: Sink, F: Sink>(
     faults: &mut F,
 ) -> u8
     ensures { MessagesEnd (each_declared known.entry.texts.now) (P.reported opener.old) what.now
-        (I.left input) O.taken output.old output.new result }
+        (record { left = I.left; reads = I.reads; failures = I.failures; taken = O.taken; lost = O.failures })
+        (record {
+          left = P.Text.left;
+          reads = P.Text.reads;
+          failures = P.Text.failures;
+          taken = O.taken;
+          lost = O.failures;
+        })
+        (P.failures opener.old) (P.failures opener.new) input output.old output.new result }
 {
     let other = match replies_of(what, opener) {
         Ok(other) => other,
@@ -45,7 +59,7 @@ pub fn messages_over<P: Opener, I: Source + Drop, O: Sink, F: Sink>(
         Ok(declared) => declared,
         Err(why) => return refuse_texts(known.alloc, why, &what.types.files, faults),
     };
-    match print_by(known, &declared, what.json, input, other, output) {
+    match print_by(known, &declared, what.style, input, other, output) {
         Ok(status) => status,
         Err(failure) => report(failure, faults),
     }
@@ -54,6 +68,9 @@ pub fn messages_over<P: Opener, I: Source + Drop, O: Sink, F: Sink>(
 // The file with the other direction, where one is named.
 fn replies_of<P: Opener>(what: &MessagesTask, opener: &mut P) -> Result<Option<P::Text>, Failure>
     ensures opened { IfOk result (λ text. IsOpened P.Text.left (P.reported opener.old) what.now.replies text) }
+    ensures unopened { IfErr result (λ f.
+        IsUnopened what.now.replies (P.failures opener.old) (P.failures opener.new) f) }
+    ensures none_failed { OnOk result (Counts 0 (P.failures opener.old) (P.failures opener.new)) }
     ensures same { P.reported opener.new ≡ P.reported opener.old }
 {
     match &what.replies {
@@ -69,34 +86,46 @@ fn replies_of<P: Opener>(what: &MessagesTask, opener: &mut P) -> Result<Option<P
 fn print_by<I: Source + Drop, R: Source + Drop, O: Sink>(
     known: Known<'_>,
     declared: &Declared,
-    json: bool,
+    style: Style,
     input: I,
     other: Option<R>,
     output: &mut O,
 ) -> Result<u8, Failure>
     ensures few { IfOk result (λ status. status ≤ 1) }
     ensures prints { IfOk result (λ status. PrintsBy R.left (each_declared known.entry.texts.now)
-        (declared_of declared.now) json other (I.left input) (O.taken output.old)
+        (declared_of declared.now) style other (I.left input) (O.taken output.old)
         (O.taken output.new) status) }
+    ensures part { OnErr result ((output.new ≡ output.old) ⊎ PrintsPartBy R.left (each_declared known.entry.texts.now)
+        (declared_of declared.now) style other (I.left input) (O.taken output.old) (O.taken output.new)) }
+    ensures fails { IfErr result (λ f.
+        Reports I.failures I.reads input (sunk O.taken O.failures output.old) (sunk O.taken O.failures output.new) f
+        ⊎ ReportsOther R.failures R.reads other (sunk O.taken O.failures output.old)
+        (sunk O.taken O.failures output.new) f) }
 {
     let heads = read_heads(known.alloc)?;
-    let terms = terms_by(known, declared, &heads, json);
+    let terms = terms_by(known, declared, &heads, style);
     let mut watch = Watch::new(known.alloc, &terms);
     let status = print_in(known.alloc, &mut watch, input, other, output)?;
     Ok(status)
 }
 
 // By what messages are judged and printed.
-fn terms_by<'a>(known: Known<'a>, declared: &'a Declared, heads: &'a Heads, json: bool) -> Terms<'a>
+fn terms_by<'a>(
+    known: Known<'a>,
+    declared: &'a Declared,
+    heads: &'a Heads,
+    style: Style,
+) -> Terms<'a>
     ensures { terms_of result ≡ terms_in (each_declared known.entry.texts.now) (declared_of declared.now)
-        (heads_of heads.now) json }
+        (heads_of heads.now) style }
 {
     Terms {
         declared,
         known: known.texts,
         heads,
         limits: Limits::new(4096, 16777216).unwrap(),
-        form: form_of(json),
+        form: form_of(style.json),
+        brief: style.brief,
     }
 }
 
@@ -118,6 +147,12 @@ fn print_in<I: Source + Drop, R: Source + Drop, O: Sink>(
     ensures few { IfOk result (λ status. status ≤ 1) }
     ensures prints { IfOk result (λ status. PrintsIn R.left (terms_of watch.old.terms) other
         (I.left input) (O.taken output.old) (O.taken output.new) status) }
+    ensures part { OnErr result (PrintsPartIn R.left (terms_of watch.old.terms) other
+        (I.left input) (O.taken output.old) (O.taken output.new)) }
+    ensures fails { IfErr result (λ f.
+        Reports I.failures I.reads input (sunk O.taken O.failures output.old) (sunk O.taken O.failures output.new) f
+        ⊎ ReportsOther R.failures R.reads other (sunk O.taken O.failures output.old)
+        (sunk O.taken O.failures output.new) f) }
 {
     match other {
         None => print_one(alloc, watch, input, output),
@@ -136,6 +171,10 @@ fn print_one<I: Source + Drop, O: Sink>(
     ensures few { IfOk result (λ status. status ≤ 1) }
     ensures prints { IfOk result (λ status. PrintsInput (terms_of watch.old.terms)
         (I.left input) (O.taken output.old) (O.taken output.new) status) }
+    ensures part { OnErr result (PrintsInputPart (terms_of watch.old.terms)
+        (I.left input) (O.taken output.old) (O.taken output.new)) }
+    ensures fails { IfErr result (λ f.
+        Reports I.failures I.reads input (sunk O.taken O.failures output.old) (sunk O.taken O.failures output.new) f) }
 {
     let mut calls = Stream::new(alloc, "input", input);
     calls.tell_all(watch, output)?;
@@ -155,6 +194,12 @@ fn print_both<I: Source + Drop, R: Source + Drop, O: Sink>(
     ensures few { IfOk result (λ status. status ≤ 1) }
     ensures prints { IfOk result (λ status. PrintsBoth (terms_of watch.old.terms)
         (I.left input) (R.left other) (O.taken output.old) (O.taken output.new) status) }
+    ensures part { OnErr result (PrintsBothPart (terms_of watch.old.terms)
+        (I.left input) (R.left other) (O.taken output.old) (O.taken output.new)) }
+    ensures fails { IfErr result (λ f.
+        Reports I.failures I.reads input (sunk O.taken O.failures output.old) (sunk O.taken O.failures output.new) f
+        ⊎ Reports R.failures R.reads other (sunk O.taken O.failures output.old)
+        (sunk O.taken O.failures output.new) f) }
 {
     let mut calls = Stream::new(alloc, "input", input);
     let mut replies = Stream::new(alloc, "replies", other);
@@ -167,6 +212,8 @@ fn print_both<I: Source + Drop, R: Source + Drop, O: Sink>(
 fn close<O: Sink>(alloc: Global, watch: &Watch<'_>, output: &mut O) -> Result<u8, Failure>
     ensures few { IfOk result (λ status. status ≤ 1) }
     ensures closes { IfOk result (λ status. Closes watch.now (O.taken output.old) (O.taken output.new) status) }
+    ensures fails { IfErr result (λ f.
+        CloseFails watch.now (sunk O.taken O.failures output.old) (sunk O.taken O.failures output.new) f) }
 {
     let counts = watch.counts();
     let line = counts_line(alloc, watch.form(), counts)?;

@@ -1,9 +1,9 @@
 //! One direction of a connection.
-ghost use Rattle.std.specs.Prelude.{◌≡◌, ◌<◌, ◌∷◌, [], true, false, IfOk, OnOk};
+ghost use Rattle.std.specs.Prelude.{◌≡◌, ◌<◌, ◌∷◌, ℕ, [], true, false, IfErr, IfOk, OnOk, Option};
 ghost use Rattle.rpc_record.specs.Streamed.{most_to_come};
 ghost use Rattle.oncrpc_watch.specs.Events.{Ends, Record};
-ghost use Rattle.oncrpc_watch.specs.Private.Steps.{GoesOn, IsStanding, Prints, Reads, Stands, TellsOn, came, is_last};
-ghost use Rattle.oncrpc_watch.specs.Private.Steps.{reached};
+ghost use Rattle.oncrpc_watch.specs.Private.Steps.{GoesOn, IsSound, IsStanding, Prints, ReadFails, Reads, Stands};
+ghost use Rattle.oncrpc_watch.specs.Private.Steps.{StopsOn, StopsTelling, TellsOn, came, is_last, reached, sunk};
 
 use crate::ending::{Ending, ending_line, ending_of};
 use crate::placed::Placed;
@@ -48,9 +48,9 @@ pub enum Come {
 impl<R: Source> Stream<R> {
     /// Before the first read.
     pub fn new(alloc: Global, name: &'static str, source: R) -> Stream<R>
-        ensures stands { Stands (reached result.ended result.records result.name.now (R.left result.source.source))
-            (R.left source) [] }
+        ensures stands { Stands (reached R.left R.failures R.reads result) (R.left source) [] }
         ensures name { result.name.now ≡ name.now }
+        ensures sound { IsSound (R.failures source) (R.reads source) (reached R.left R.failures R.reads result) }
     {
         Stream {
             alloc,
@@ -64,14 +64,16 @@ impl<R: Source> Stream<R> {
 
     /// Reads the next record. False: there is none. Where the stream is refused, that is printed.
     pub fn next<O: Sink>(&mut self, watch: &mut Watch<'_>, output: &mut O) -> Result<bool, Failure>
-        requires standing { IsStanding
-            (reached self.old.ended self.old.records self.old.name.now (R.left self.old.source.source)) }
+        requires standing { IsStanding (reached R.left R.failures R.reads self.old) }
         ensures reads { IfOk result (λ more. Reads more
-            (reached self.old.ended self.old.records self.old.name.now (R.left self.old.source.source))
-            (reached self.new.ended self.new.records self.new.name.now (R.left self.new.source.source))
-            self.new.record.items watch.old watch.new (O.taken output.old) (O.taken output.new)) }
+            (reached R.left R.failures R.reads self.old) (reached R.left R.failures R.reads self.new)
+            self.new.record.items watch.old watch.new (sunk O.taken O.failures output.old)
+            (sunk O.taken O.failures output.new)) }
         ensures fewer { IfOk result (λ more. more ≡ true
             → most_to_come self.new.records < most_to_come self.old.records) }
+        ensures stops { IfErr result (λ f. StopsOn
+            (reached R.left R.failures R.reads self.old) (reached R.left R.failures R.reads self.new)
+            watch.old (sunk O.taken O.failures output.old) (sunk O.taken O.failures output.new) f) }
     {
         if self.ended {
             return Ok(false);
@@ -89,16 +91,16 @@ impl<R: Source> Stream<R> {
     // Reads the next record of a stream that has not ended.
     fn read(&mut self) -> Result<Come, Failure>
         requires begun { self.old.ended ≡ false }
-        requires standing { IsStanding
-            (reached self.old.ended self.old.records self.old.name.now (R.left self.old.source.source)) }
+        requires standing { IsStanding (reached R.left R.failures R.reads self.old) }
         ensures on { IfOk result (λ k. GoesOn
-            (reached self.old.ended self.old.records self.old.name.now (R.left self.old.source.source))
-            (reached self.new.ended self.new.records self.new.name.now (R.left self.new.source.source))
+            (reached R.left R.failures R.reads self.old) (reached R.left R.failures R.reads self.new)
             (came k self.old.name.now self.new.record.items)) }
         ensures ended { IfOk result (λ k. self.new.ended ≡ is_last k) }
-        ensures name { self.new.name ≡ self.old.name }
         ensures fewer { IfOk result (λ k. is_last k ≡ false
             → most_to_come self.new.records < most_to_come self.old.records) }
+        ensures fails { IfErr result (λ f. (failures reads : Option ℕ)
+            → IsSound failures reads (reached R.left R.failures R.reads self.old)
+            → ReadFails failures reads (reached R.left R.failures R.reads self.new) f) }
     {
         self.source.begin();
         match self
@@ -125,8 +127,10 @@ impl<R: Source> Stream<R> {
         watch: &mut Watch<'_>,
         output: &mut O,
     ) -> Result<(), Failure>
-        ensures { OnOk result (Prints watch.old watch.new (Ends self.now.name.now ending ∷ []) (O.taken output.old)
-            (O.taken output.new)) }
+        ensures prints { OnOk result (Prints watch.old watch.new (Ends self.now.name.now ending ∷ [])
+            (sunk O.taken O.failures output.old) (sunk O.taken O.failures output.new)) }
+        ensures stops { IfErr result (λ f. StopsTelling watch.old (Ends self.now.name.now ending ∷ [])
+            (sunk O.taken O.failures output.old) (sunk O.taken O.failures output.new) f) }
     {
         watch.refuse();
         let line = ending_line(self.alloc, watch.form(), self.name, ending)?;
@@ -137,9 +141,11 @@ impl<R: Source> Stream<R> {
     /// Prints the record at work.
     pub fn tell<O: Sink>(&mut self, watch: &mut Watch<'_>, output: &mut O) -> Result<(), Failure>
         ensures prints { OnOk result (Prints watch.old watch.new (Record self.old.record.items ∷ [])
-            (O.taken output.old) (O.taken output.new)) }
-        ensures same { (reached self.new.ended self.new.records self.new.name.now (R.left self.new.source.source))
-            ≡ (reached self.old.ended self.old.records self.old.name.now (R.left self.old.source.source)) }
+            (sunk O.taken O.failures output.old) (sunk O.taken O.failures output.new)) }
+        ensures stops { IfErr result (λ f. StopsTelling watch.old (Record self.old.record.items ∷ [])
+            (sunk O.taken O.failures output.old) (sunk O.taken O.failures output.new) f) }
+        ensures same { (reached R.left R.failures R.reads self.new)
+            ≡ (reached R.left R.failures R.reads self.old) }
     {
         self.source.take_record()?;
         let record = self.record.as_slice();
@@ -165,15 +171,16 @@ impl<R: Source> Stream<R> {
         watch: &mut Watch<'_>,
         output: &mut O,
     ) -> Result<bool, Failure>
-        requires standing { IsStanding
-            (reached self.old.ended self.old.records self.old.name.now (R.left self.old.source.source)) }
+        requires standing { IsStanding (reached R.left R.failures R.reads self.old) }
         ensures tells { OnOk result (TellsOn
-            (reached self.old.ended self.old.records self.old.name.now (R.left self.old.source.source))
-            (reached self.new.ended self.new.records self.new.name.now (R.left self.new.source.source))
-            watch.old watch.new (O.taken output.old) (O.taken output.new)) }
+            (reached R.left R.failures R.reads self.old) (reached R.left R.failures R.reads self.new)
+            watch.old watch.new (sunk O.taken O.failures output.old) (sunk O.taken O.failures output.new)) }
         ensures ended { IfOk result (λ more. more ≡ false → self.new.ended ≡ true) }
         ensures fewer { IfOk result (λ more. more ≡ true
             → most_to_come self.new.records < most_to_come self.old.records) }
+        ensures stops { IfErr result (λ f. StopsOn
+            (reached R.left R.failures R.reads self.old) (reached R.left R.failures R.reads self.new)
+            watch.old (sunk O.taken O.failures output.old) (sunk O.taken O.failures output.new) f) }
     {
         match self.next(watch, output) {
             Ok(true) => {}
@@ -190,13 +197,14 @@ impl<R: Source> Stream<R> {
         watch: &mut Watch<'_>,
         output: &mut O,
     ) -> Result<(), Failure>
-        requires standing { IsStanding
-            (reached self.old.ended self.old.records self.old.name.now (R.left self.old.source.source)) }
+        requires standing { IsStanding (reached R.left R.failures R.reads self.old) }
         ensures tells { OnOk result (TellsOn
-            (reached self.old.ended self.old.records self.old.name.now (R.left self.old.source.source))
-            (reached self.new.ended self.new.records self.new.name.now (R.left self.new.source.source))
-            watch.old watch.new (O.taken output.old) (O.taken output.new)) }
+            (reached R.left R.failures R.reads self.old) (reached R.left R.failures R.reads self.new)
+            watch.old watch.new (sunk O.taken O.failures output.old) (sunk O.taken O.failures output.new)) }
         ensures ended { OnOk result (self.new.ended ≡ true) }
+        ensures stops { IfErr result (λ f. StopsOn
+            (reached R.left R.failures R.reads self.old) (reached R.left R.failures R.reads self.new)
+            watch.old (sunk O.taken O.failures output.old) (sunk O.taken O.failures output.new) f) }
     {
         'records: loop {
             match self.tell_next(watch, output) {

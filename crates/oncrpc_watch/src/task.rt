@@ -1,4 +1,5 @@
 //! What the words of `messages` ask for.
+use crate::style::Style;
 use oncrpc_answers::Texts;
 use std::alloc::Global;
 use xdr_lang::Declared;
@@ -10,8 +11,8 @@ pub struct MessagesTask {
     pub types: Texts,
     /// The file with the other direction, where it is given.
     pub replies: Option<String>,
-    /// Whether each message is a line of JSON.
-    pub json: bool,
+    /// How they are printed.
+    pub style: Style,
 }
 
 /// What is at hand beside the words.

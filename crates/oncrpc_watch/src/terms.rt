@@ -8,7 +8,7 @@ use oncrpc_messages::{Form, Heads, Settings};
 use xdr_lang::{Declared, Program};
 use xdr_types::Limits;
 
-/// What is declared, the types of heads, the limits on each value, and how messages are printed.
+/// What is declared, the types of heads, the limits on each value, how messages are printed, and how much of them.
 #[derive(Clone, Copy)]
 pub struct Terms<'a> {
     /// What the texts declare that the words name, as one.
@@ -21,6 +21,8 @@ pub struct Terms<'a> {
     pub limits: Limits,
     /// How messages are printed.
     pub form: Form,
+    /// Whether nothing is printed of arguments and results that are values.
+    pub brief: bool,
 }
 
 impl<'a> Terms<'a> {
@@ -38,6 +40,7 @@ impl<'a> Terms<'a> {
             heads: self.heads,
             limits: self.limits,
             form: self.form,
+            brief: self.brief,
         }
     }
 }

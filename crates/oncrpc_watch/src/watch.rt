@@ -60,6 +60,7 @@ impl<'a> Watch<'a> {
             heads,
             limits,
             form,
+            brief,
         } = *terms;
         Watch {
             alloc,
@@ -69,6 +70,7 @@ impl<'a> Watch<'a> {
                 heads,
                 limits,
                 form,
+                brief,
             },
             table: CallTable::new(alloc),
             counts: Counts::none(),

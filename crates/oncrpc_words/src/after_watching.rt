@@ -4,7 +4,8 @@
 pub const AFTER_MESSAGES: &str =
     "Output: a line for each message of the records of standard input (RFC 5531 sections
 9 and 11), below it the lines of its arguments or results, as 'oncrpc show' prints
-them, and a closing line of counts; with --json an object on a line for each.
+them, and a closing line of counts; with --json an object on a line for each. With
+--brief arguments and results are judged and not printed.
   call XID P.V.N NAME FLAVOR      a call; of AUTH_SYS its fields follow as JSON
   reply XID P.V.N NAME STATUS     a reply to a call that was read before
   reply XID no call STATUS        a reply to none

@@ -45,6 +45,9 @@ pub const REPLIES: &str = "The file with the other direction of the connection";
 /// Messages as JSON.
 pub const JSON_MESSAGES: &str = "Print an object of JSON on a line for each message";
 
+/// Messages without their arguments and results.
+pub const BRIEF: &str = "Judge arguments and results, and do not print them";
+
 /// The file of captured packets.
 pub const CAPTURED: &str = "A file of captured packets, pcap or pcapng, or - for standard input";
 

@@ -36,6 +36,8 @@ pub struct MessagesTask {
     pub replies: Option<String>,
     /// Whether each message is a line of JSON.
     pub json: bool,
+    /// Whether nothing is printed of arguments and results that are values.
+    pub brief: bool,
 }
 
 /// A capture to be read.
@@ -49,6 +51,8 @@ pub struct CaptureTask {
     pub ports: Vec<u16>,
     /// Whether each message is a line of JSON.
     pub json: bool,
+    /// Whether nothing is printed of arguments and results that are values.
+    pub brief: bool,
     /// Whether counts are printed in place of messages.
     pub stats: bool,
 }

@@ -87,16 +87,17 @@ pub const OF_RECORDS: [Word; 2] = [
 ];
 
 /// The words of `messages`.
-pub const OF_MESSAGES: [Word; 5] = [
+pub const OF_MESSAGES: [Word; 6] = [
     Word::Repeated("types", "FILE", help::TYPES, Taken::Text, &[]),
     Word::Beside("dialect", "DIALECT", help::DIALECT, Taken::Dialect, "types"),
     Word::Repeated("define", "NAME", help::DEFINE, Taken::Text, &["dialect"]),
     Word::Optional("replies", "FILE", help::REPLIES, Taken::Text, &[]),
     Word::Flag("json", help::JSON_MESSAGES),
+    Word::Flag("brief", help::BRIEF),
 ];
 
 /// The words of `capture`.
-pub const OF_CAPTURE: [Word; 7] = [
+pub const OF_CAPTURE: [Word; 8] = [
     Word::Placed("file", "FILE", help::CAPTURED, Taken::Text),
     Word::Repeated("types", "FILE", help::TYPES, Taken::Text, &[]),
     Word::Beside("dialect", "DIALECT", help::DIALECT, Taken::Dialect, "types"),
@@ -104,6 +105,7 @@ pub const OF_CAPTURE: [Word; 7] = [
     Word::Repeated("port", "N", help::PORTS, Taken::Port, &[]),
     Word::Flag("json", help::JSON_MESSAGES),
     Word::Flag("stats", help::STATS),
+    Word::FlagWithout("brief", help::BRIEF, "stats"),
 ];
 
 /// The words of `info`.

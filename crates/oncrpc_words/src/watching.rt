@@ -14,6 +14,7 @@ pub fn messages_task(alloc: Global, options: &ArgMatches<'_>) -> Result<Messages
         types: texts(alloc, options)?,
         replies,
         json: options.get_flag("json"),
+        brief: options.get_flag("brief"),
     })
 }
 
@@ -24,6 +25,7 @@ pub fn capture_task(alloc: Global, options: &ArgMatches<'_>) -> Result<CaptureTa
         types: texts(alloc, options)?,
         ports: ports(alloc, options)?,
         json: options.get_flag("json"),
+        brief: options.get_flag("brief"),
         stats: options.get_flag("stats"),
     })
 }

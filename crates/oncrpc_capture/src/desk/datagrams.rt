@@ -1,9 +1,10 @@
 //! Datagrams, each of which is a message.
 use super::Desk;
-use crate::finding::{begins_call, is_reply};
+use crate::finding::begins_call;
 use crate::pairs::pair_of;
 use crate::seen::{Seen, node_of};
 use capture_packets::{Datagram, Endpoint};
+use capture_records::is_reply;
 use oncrpc_answers::Failure;
 use xdr_io::Sink;
 
@@ -45,6 +46,7 @@ impl<'a> Desk<'a> {
             (λ es. BringsDatagram self.old.ports.now self.old.frame (datagram_view datagram.entry) es)
             self.old.printing self.new.printing (O.taken output.old) (O.taken output.new)) }
         ensures same { (self.new.ports ≡ self.old.ports) × (self.new.frame ≡ self.old.frame) }
+        ensures flows { self.new.flows ≡ self.old.flows }
     {
         if !self.is_wanted(datagram.from.port, datagram.to.port) {
             return Ok(());
@@ -73,6 +75,7 @@ impl<'a> Desk<'a> {
             (λ es. MayTell is_message self.old.frame (datagram_view datagram.entry) es)
             self.old.printing self.new.printing (O.taken output.old) (O.taken output.new)) }
         ensures same { (self.new.ports ≡ self.old.ports) × (self.new.frame ≡ self.old.frame) }
+        ensures flows { self.new.flows ≡ self.old.flows }
     {
         self.talks.note(place, self.frame);
         let way = way_of(self.talks.number(place), false, seen, datagram.bytes);

@@ -7,12 +7,12 @@ use xdr_io::Sink;
 
 impl<'a> Desk<'a> {
     ghost use Rattle.std.specs.Prelude.{◌≡◌, OnOk};
-    ghost use Rattle.oncrpc_capture.specs.Private.Steps.{PrintsSome};
+    ghost use Rattle.oncrpc_capture.specs.Private.Steps.{Goes};
 
     /// At the end of the file all connections end.
     pub(super) fn end<O: Sink>(&mut self, output: &mut O) -> Result<(), Failure>
-        ensures some { OnOk result (PrintsSome self.old.printing self.new.printing (O.taken output.old)
-            (O.taken output.new)) }
+        ensures goes { OnOk result (Goes self.old.flows self.new.flows self.old.printing self.new.printing
+            (O.taken output.old) (O.taken output.new)) }
         ensures same { (self.new.ports ≡ self.old.ports) × (self.new.frame ≡ self.old.frame) }
     {
         'flows: for place in 0..self.flows.pairs.len() {
@@ -23,8 +23,8 @@ impl<'a> Desk<'a> {
 
     /// Both directions of a connection end, that of the calls first, so that replies behind holes have their calls.
     pub(super) fn end_flow<O: Sink>(&mut self, place: usize, output: &mut O) -> Result<(), Failure>
-        ensures some { OnOk result (PrintsSome self.old.printing self.new.printing (O.taken output.old)
-            (O.taken output.new)) }
+        ensures goes { OnOk result (Goes self.old.flows self.new.flows self.old.printing self.new.printing
+            (O.taken output.old) (O.taken output.new)) }
         ensures same { (self.new.ports ≡ self.old.ports) × (self.new.frame ≡ self.old.frame) }
     {
         let calls = self.flows.lower_calls(place);
@@ -40,8 +40,8 @@ impl<'a> Desk<'a> {
         up: bool,
         output: &mut O,
     ) -> Result<(), Failure>
-        ensures some { OnOk result (PrintsSome self.old.printing self.new.printing (O.taken output.old)
-            (O.taken output.new)) }
+        ensures goes { OnOk result (Goes self.old.flows self.new.flows self.old.printing self.new.printing
+            (O.taken output.old) (O.taken output.new)) }
         ensures same { (self.new.ports ≡ self.old.ports) × (self.new.frame ≡ self.old.frame) }
     {
         let Some(seen) = self.last_of(place, up) else {
@@ -74,8 +74,8 @@ impl<'a> Desk<'a> {
         seen: Seen,
         output: &mut O,
     ) -> Result<(), Failure>
-        ensures some { OnOk result (PrintsSome self.old.printing self.new.printing (O.taken output.old)
-            (O.taken output.new)) }
+        ensures goes { OnOk result (Goes self.old.flows self.new.flows self.old.printing self.new.printing
+            (O.taken output.old) (O.taken output.new)) }
         ensures same { (self.new.ports ≡ self.old.ports) × (self.new.frame ≡ self.old.frame) }
     {
         'holes: for _hole in 0..u64::MAX {
@@ -94,22 +94,18 @@ impl<'a> Desk<'a> {
         seen: Seen,
         output: &mut O,
     ) -> Result<(), Failure>
-        ensures some { OnOk result (PrintsSome self.old.printing self.new.printing (O.taken output.old)
-            (O.taken output.new)) }
+        ensures goes { OnOk result (Goes self.old.flows self.new.flows self.old.printing self.new.printing
+            (O.taken output.old) (O.taken output.new)) }
         ensures same { (self.new.ports ≡ self.old.ports) × (self.new.frame ≡ self.old.frame) }
     {
-        let Some(flow) = self.flows.flow(place) else {
+        let Some(left) = self.flows.end(place, up) else {
             return Ok(());
         };
-        let known = flow.known;
-        let missing = flow.side(up).missing_at_end();
-        let left = flow.side(up).give_up();
-        flow.side(up).let_go();
         self.flows.count(place);
-        if !known {
+        if !left.known {
             return Ok(());
         }
-        self.printing.note_some(seen, left, output)?;
-        self.printing.note_some(seen, missing, output)
+        self.printing.note_some(seen, left.left, output)?;
+        self.printing.note_some(seen, left.missing, output)
     }
 }

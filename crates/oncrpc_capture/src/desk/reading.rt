@@ -14,12 +14,14 @@ impl<'a> Desk<'a> {
     ghost use Rattle.std.specs.Prelude.{◌≡◌, ◌∷◌, [], IfOk, OnOk};
     ghost use Rattle.capture_files.specs.declared.captured.Found.{Found};
     ghost use Rattle.capture_files.specs.declared.progress.Progress.TheVariants.{Waiting};
-    ghost use Rattle.capture_files.specs.Represents.{captured_view};
-    ghost use Rattle.oncrpc_capture.specs.Brought.{Brings, BringsOther};
+    ghost use Rattle.capture_packets.specs.Packets.{packet_of};
+    ghost use Rattle.oncrpc_capture.specs.Brought.{BringsOther};
     ghost use Rattle.oncrpc_capture.specs.Entries.{FileRefused};
     ghost use Rattle.oncrpc_capture.specs.Files.{reason_name};
     ghost use Rattle.oncrpc_capture.specs.Notes.{is_unread};
-    ghost use Rattle.oncrpc_capture.specs.Private.Steps.{EndsFile, Feeds, HasRead, Prints, PrintsNext, PrintsOf};
+    ghost use Rattle.oncrpc_capture.specs.Private.Follows.{Begun};
+    ghost use Rattle.oncrpc_capture.specs.Private.Steps.{EndsFile, Feeds, GoesFrom, HasRead, Prints, PrintsNext};
+    ghost use Rattle.oncrpc_capture.specs.Private.Steps.{PrintsOf};
 
     /// Reads a file to its end, and prints what it has.
     pub(super) fn read<I: Source + Drop, O: Sink>(
@@ -27,7 +29,8 @@ impl<'a> Desk<'a> {
         mut source: I,
         output: &mut O,
     ) -> Result<(), Failure>
-        requires { self.old.frame ≡ 0 }
+        requires first { self.old.frame ≡ 0 }
+        requires begun { Begun self.old.flows }
         ensures { OnOk result (HasRead self.old.printing self.new.printing self.old.ports.now (I.left source)
             (O.taken output.old) (O.taken output.new)) }
     {
@@ -56,7 +59,7 @@ impl<'a> Desk<'a> {
         output: &mut O,
     ) -> Result<(), Failure>
         ensures { OnOk result (EndsFile self.old.printing self.new.printing self.old.ports.now self.old.frame
-            reader.old (O.taken output.old) (O.taken output.new)) }
+            self.old.flows reader.old (O.taken output.old) (O.taken output.new)) }
     {
         match reader.end() {
             Ok(()) => self.end(output),
@@ -75,7 +78,8 @@ impl<'a> Desk<'a> {
         output: &mut O,
     ) -> Result<bool, Failure>
         ensures feeds { IfOk result (λ more. Feeds more self.old.printing self.new.printing self.old.ports.now
-            self.old.frame self.new.frame reader.old reader.new piece.now (O.taken output.old) (O.taken output.new)) }
+            self.old.frame self.new.frame self.old.flows self.new.flows reader.old reader.new piece.now
+            (O.taken output.old) (O.taken output.new)) }
         ensures ports { self.new.ports ≡ self.old.ports }
     {
         let mut rest = piece;
@@ -103,7 +107,8 @@ impl<'a> Desk<'a> {
     ) -> Result<(), Failure>
         requires { (found : Found) × (reader.now.progress ≡ Waiting found) }
         ensures prints { OnOk result (PrintsNext reader.now self.old.ports.now self.old.frame self.new.frame
-            self.old.printing self.new.printing (O.taken output.old) (O.taken output.new)) }
+            self.old.flows self.new.flows self.old.printing self.new.printing (O.taken output.old)
+            (O.taken output.new)) }
         ensures ports { self.new.ports ≡ self.old.ports }
     {
         match reader.packet() {
@@ -121,6 +126,7 @@ impl<'a> Desk<'a> {
             (FileRefused (reason_name fault.reason) fault.at ∷ []) (O.taken output.old) (O.taken output.new)) }
         ensures reason { OnOk result (fault.reason ≡ CaptureReason.NoMemory → ⊥) }
         ensures same { (self.new.ports ≡ self.old.ports) × (self.new.frame ≡ self.old.frame) }
+        ensures flows { self.new.flows ≡ self.old.flows }
     {
         match fault.reason {
             CaptureReason::NoMemory => Err(Failure::NoMemory),
@@ -132,9 +138,9 @@ impl<'a> Desk<'a> {
 
     // A packet of the file, whose number is that of the packet at work.
     fn packet<O: Sink>(&mut self, packet: Captured<'_>, output: &mut O) -> Result<(), Failure>
-        ensures brings { OnOk result (PrintsOf
-            (λ es. Brings self.old.ports.now self.old.frame (captured_view packet.entry) es)
-            self.old.printing self.new.printing (O.taken output.old) (O.taken output.new)) }
+        ensures goes { OnOk result (GoesFrom self.old.ports.now self.old.frame
+            (packet_of packet.entry.link packet.entry.bytes.now) self.old.flows self.new.flows self.old.printing
+            self.new.printing (O.taken output.old) (O.taken output.new)) }
         ensures same { (self.new.ports ≡ self.old.ports) × (self.new.frame ≡ self.old.frame) }
     {
         let time = time_of(packet);
@@ -150,6 +156,7 @@ impl<'a> Desk<'a> {
         ensures brings { OnOk result (PrintsOf (λ es. BringsOther (is_unread reason) self.old.frame reason es)
             self.old.printing self.new.printing (O.taken output.old) (O.taken output.new)) }
         ensures same { (self.new.ports ≡ self.old.ports) × (self.new.frame ≡ self.old.frame) }
+        ensures flows { self.new.flows ≡ self.old.flows }
     {
         if is_unread(reason) {
             self.printing.unread(self.frame, time, reason, output)

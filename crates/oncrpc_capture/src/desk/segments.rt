@@ -1,12 +1,13 @@
 //! Segments, and the messages that they bring to an end.
+ghost use Rattle.std.specs.Prelude.{◌≡◌, ◌+◌, ◌%◌, ◌^◌, drop};
+
 use super::Desk;
 use super::datagrams::way_of;
+use crate::flow::Found;
 use crate::pairs::{Pair, pair_of};
 use crate::seen::Seen;
-use crate::sequence::{bytes_of, first_of};
-use crate::step::Step;
-use crate::told::Told;
 use capture_packets::Segment;
+use capture_records::{Step, Told, bytes_of, first_of};
 use oncrpc_answers::Failure;
 use xdr_io::Sink;
 
@@ -15,9 +16,9 @@ const MOST_TOTAL: usize = 268435456;
 
 impl<'a> Desk<'a> {
     ghost use Rattle.std.specs.Prelude.{◌≡◌, OnOk};
-    ghost use Rattle.capture_packets.specs.View.{segment_view};
-    ghost use Rattle.oncrpc_capture.specs.Brought.{BringsSegment};
-    ghost use Rattle.oncrpc_capture.specs.Private.Steps.{PrintsOf, PrintsSome};
+    ghost use Rattle.capture_packets.specs.View.{endpoint_view, segment_view};
+    ghost use Rattle.oncrpc_capture.specs.Nodes.{IsSeen};
+    ghost use Rattle.oncrpc_capture.specs.Private.Steps.{Goes, GoesBy, GoesOn, PrintsFound};
 
     /// A segment, and the messages that it brings to an end.
     pub(super) fn segment<O: Sink>(
@@ -26,8 +27,8 @@ impl<'a> Desk<'a> {
         segment: Segment<'_>,
         output: &mut O,
     ) -> Result<(), Failure>
-        ensures brings { OnOk result (PrintsOf (λ es. BringsSegment self.old.ports.now (segment_view segment.entry) es)
-            self.old.printing self.new.printing (O.taken output.old) (O.taken output.new)) }
+        ensures goes { OnOk result (GoesBy self.old.ports.now (segment_view segment.entry) self.old.flows
+            self.new.flows self.old.printing self.new.printing (O.taken output.old) (O.taken output.new)) }
         ensures same { (self.new.ports ≡ self.old.ports) × (self.new.frame ≡ self.old.frame) }
     {
         if !self.is_wanted(segment.from.port, segment.to.port) {
@@ -38,14 +39,14 @@ impl<'a> Desk<'a> {
         let place = self.flow_of(pair, output)?;
         self.flows.pairs.note(place, self.frame);
         self.begin(place, up, time, segment, output)?;
-        self.take(place, up, seen, segment, output)?;
+        self.take(place, seen, segment, output)?;
         self.hold(place, up, seen, output)
     }
 
     // The place of the connection between two nodes, which may be new.
     fn flow_of<O: Sink>(&mut self, pair: Pair, output: &mut O) -> Result<usize, Failure>
-        ensures some { OnOk result (PrintsSome self.old.printing self.new.printing (O.taken output.old)
-            (O.taken output.new)) }
+        ensures goes { OnOk result (Goes self.old.flows self.new.flows self.old.printing self.new.printing
+            (O.taken output.old) (O.taken output.new)) }
         ensures same { (self.new.ports ≡ self.old.ports) × (self.new.frame ≡ self.old.frame) }
     {
         if let Some(place) = self.flows.pairs.place_of(&pair) {
@@ -59,8 +60,8 @@ impl<'a> Desk<'a> {
 
     // Where there are too many connections, the one that was not seen for the longest time ends.
     fn make_place<O: Sink>(&mut self, output: &mut O) -> Result<(), Failure>
-        ensures some { OnOk result (PrintsSome self.old.printing self.new.printing (O.taken output.old)
-            (O.taken output.new)) }
+        ensures goes { OnOk result (Goes self.old.flows self.new.flows self.old.printing self.new.printing
+            (O.taken output.old) (O.taken output.new)) }
         ensures same { (self.new.ports ≡ self.old.ports) × (self.new.frame ≡ self.old.frame) }
     {
         if !self.flows.pairs.is_full() {
@@ -80,8 +81,8 @@ impl<'a> Desk<'a> {
         segment: Segment<'_>,
         output: &mut O,
     ) -> Result<(), Failure>
-        ensures some { OnOk result (PrintsSome self.old.printing self.new.printing (O.taken output.old)
-            (O.taken output.new)) }
+        ensures goes { OnOk result (Goes self.old.flows self.new.flows self.old.printing self.new.printing
+            (O.taken output.old) (O.taken output.new)) }
         ensures same { (self.new.ports ≡ self.old.ports) × (self.new.frame ≡ self.old.frame) }
     {
         self.end_other(place, up, segment, output)?;
@@ -97,8 +98,8 @@ impl<'a> Desk<'a> {
         segment: Segment<'_>,
         output: &mut O,
     ) -> Result<(), Failure>
-        ensures some { OnOk result (PrintsSome self.old.printing self.new.printing (O.taken output.old)
-            (O.taken output.new)) }
+        ensures goes { OnOk result (Goes self.old.flows self.new.flows self.old.printing self.new.printing
+            (O.taken output.old) (O.taken output.new)) }
         ensures same { (self.new.ports ≡ self.old.ports) × (self.new.frame ≡ self.old.frame) }
     {
         if !self.flows.is_other(place, up, segment) {
@@ -111,29 +112,27 @@ impl<'a> Desk<'a> {
     fn take<O: Sink>(
         &mut self,
         place: usize,
-        up: bool,
         seen: Seen,
         segment: Segment<'_>,
         output: &mut O,
     ) -> Result<(), Failure>
-        ensures some { OnOk result (PrintsSome self.old.printing self.new.printing (O.taken output.old)
-            (O.taken output.new)) }
+        requires { IsSeen self.old.frame (endpoint_view segment.from) (endpoint_view segment.to) seen }
+        ensures goes { OnOk result (GoesOn (segment_view segment.entry) self.old.flows self.new.flows
+            self.old.printing self.new.printing (O.taken output.old) (O.taken output.new)) }
         ensures same { (self.new.ports ≡ self.old.ports) × (self.new.frame ≡ self.old.frame) }
     {
         let late = Seen { late: true, ..seen };
+        let (pair, up) = pair_of(seen);
         let mut sequence = first_of(segment);
         let mut rest = bytes_of(segment);
         'pieces: for _piece in 0..u64::MAX {
-            let Some(flow) = self.flows.flow(place) else {
-                return Ok(());
-            };
-            let taken = flow.side(up).take(sequence, rest)?;
+            let taken = self.flows.take(place, pair, up, sequence, rest)?;
             self.records(place, up, seen, output)?;
             let Some(count) = taken else {
                 return Ok(());
             };
-            rest = rest.get(count..).unwrap_or(&[]);
-            sequence = sequence.wrapping_add((count % (1 << 32)) as u32);
+            rest = behind(rest, count);
+            sequence = number_behind(sequence, count);
             self.go_behind(place, up, late, output)?;
         }
         Ok(())
@@ -148,21 +147,19 @@ impl<'a> Desk<'a> {
         seen: Seen,
         output: &mut O,
     ) -> Result<bool, Failure>
-        ensures some { OnOk result (PrintsSome self.old.printing self.new.printing (O.taken output.old)
-            (O.taken output.new)) }
+        ensures goes { OnOk result (Goes self.old.flows self.new.flows self.old.printing self.new.printing
+            (O.taken output.old) (O.taken output.new)) }
         ensures same { (self.new.ports ≡ self.old.ports) × (self.new.frame ≡ self.old.frame) }
     {
-        let Some(flow) = self.flows.flow(place) else {
-            return Ok(false);
-        };
-        if !flow.side(up).go_behind()? {
+        if !self.flows.go_behind(place, up)? {
             return Ok(false);
         }
         self.records(place, up, seen, output)?;
         Ok(true)
     }
 
-    /// The messages of a direction that are whole, and what is said of bytes without one.
+    /// The messages of a direction that are whole, and what is said of bytes without one: each with the nodes of the
+    /// direction.
     pub(super) fn records<O: Sink>(
         &mut self,
         place: usize,
@@ -170,53 +167,52 @@ impl<'a> Desk<'a> {
         seen: Seen,
         output: &mut O,
     ) -> Result<(), Failure>
-        ensures some { OnOk result (PrintsSome self.old.printing self.new.printing (O.taken output.old)
-            (O.taken output.new)) }
+        ensures goes { OnOk result (Goes self.old.flows self.new.flows self.old.printing self.new.printing
+            (O.taken output.old) (O.taken output.new)) }
         ensures same { (self.new.ports ≡ self.old.ports) × (self.new.frame ≡ self.old.frame) }
     {
         let number = self.flows.pairs.number(place);
         'steps: for _step in 0..u64::MAX {
-            let Some(flow) = self.flows.flow(place) else {
+            let Some(found) = self.flows.next(place, up, &mut self.record)? else {
                 return Ok(());
             };
-            let known = flow.known;
-            let step = flow.side(up).next(known, &mut self.record)?;
-            if step == Step::Waits {
-                return Ok(());
-            }
-            flow.note_step(up, step, &self.record);
-            self.print_step(step, known, number, seen, output)?;
+            self.print_found(found, number, seen, output)?;
         }
         Ok(())
     }
 
-    // Prints what came of a direction of the connection of this number, where that is known to be RPC or not.
-    fn print_step<O: Sink>(
+    // Prints what came of a direction of the connection of this number.
+    fn print_found<O: Sink>(
         &mut self,
-        step: Step,
-        known: bool,
+        found: Found,
         number: u32,
         seen: Seen,
         output: &mut O,
     ) -> Result<(), Failure>
-        ensures some { OnOk result (PrintsSome self.old.printing self.new.printing (O.taken output.old)
-            (O.taken output.new)) }
+        ensures prints { OnOk result (PrintsFound found self.old.record.items self.old.printing self.new.printing
+            (O.taken output.old) (O.taken output.new)) }
+        ensures flows { self.new.flows ≡ self.old.flows }
         ensures same { (self.new.ports ≡ self.old.ports) × (self.new.frame ≡ self.old.frame) }
     {
-        match step {
+        let seen = Seen {
+            from: found.from,
+            to: found.to,
+            ..seen
+        };
+        match found.step {
             Step::Record => {
                 let way = way_of(number, true, seen, &self.record);
                 self.printing.record(way, seen, &self.record, output)
             }
             Step::Tells(told, count) => {
-                if known {
+                if found.known {
                     self.printing.note(seen, told, count, output)
                 } else {
                     Ok(())
                 }
             }
             Step::TooLong => {
-                if known {
+                if found.known {
                     self.printing.too_long(seen, output)
                 } else {
                     Ok(())
@@ -234,25 +230,37 @@ impl<'a> Desk<'a> {
         seen: Seen,
         output: &mut O,
     ) -> Result<(), Failure>
-        ensures some { OnOk result (PrintsSome self.old.printing self.new.printing (O.taken output.old)
-            (O.taken output.new)) }
+        ensures goes { OnOk result (Goes self.old.flows self.new.flows self.old.printing self.new.printing
+            (O.taken output.old) (O.taken output.new)) }
         ensures same { (self.new.ports ≡ self.old.ports) × (self.new.frame ≡ self.old.frame) }
     {
         self.flows.count(place);
         if self.flows.held() <= MOST_TOTAL {
             return Ok(());
         }
-        let Some(flow) = self.flows.flow(place) else {
+        let Some(left) = self.flows.end(place, up) else {
             return Ok(());
         };
-        let known = flow.known;
-        let count = flow.side(up).held() as u64;
-        flow.side(up).let_go();
         self.flows.count(place);
-        if known {
-            self.printing.note(seen, Told::Dropped, count, output)
+        if left.known {
+            self.printing
+                .note(seen, Told::Dropped, left.held as u64, output)
         } else {
             Ok(())
         }
     }
+}
+
+// What stands behind so many bytes.
+fn behind(bytes: &[u8], count: usize) -> &[u8]
+    ensures { result.now ≡ drop count bytes.now }
+{
+    bytes.get(count..).unwrap_or(&[])
+}
+
+// The sequence number that is so many places behind another (RFC 9293 section 3.4).
+fn number_behind(sequence: u32, count: usize) -> u32
+    ensures { result ≡ (sequence + count) % 2 ^ 32 }
+{
+    sequence.wrapping_add((count % (1 << 32)) as u32)
 }

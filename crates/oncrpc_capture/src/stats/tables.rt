@@ -1,8 +1,9 @@
 //! The tables of what is counted.
 use super::{Row, Slow, Stats, Target};
 use crate::text::note_text;
-use crate::told::{Told, told_name, why_unread};
+use crate::told::{told_name, why_unread};
 use capture_packets::Reason;
+use capture_records::Told;
 use oncrpc_messages::Form;
 use oncrpc_watch::Terms;
 use std::alloc::{AllocError, Global};

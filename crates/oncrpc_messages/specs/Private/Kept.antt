@@ -1,5 +1,5 @@
 -- What is made of the text of a message: all of it, or nothing, where a message is only judged.
-use Rattle.std.specs.Prelude.{◌≡◌, ℕ, List, [], Option, option_map}
+use Rattle.std.specs.Prelude.{◌≡◌, ℕ, Bool, true, false, List, [], Option, option_map}
 use Rattle.oncrpc_messages.specs.declared.asked.Asked.{Asked}
 use Rattle.oncrpc_messages.specs.declared.page.Page as code
 use Rattle.oncrpc_messages.specs.declared.show.Show.{Show}
@@ -11,6 +11,11 @@ use Rattle.oncrpc_messages.specs.Settings.{Settings}
 abbrev pub kept : Show → (text : List ℕ) → List ℕ
 kept show.Text text = text
 kept show.Nothing text = []
+
+-- what is made of the text of values: nothing, where messages are printed in brief
+abbrev pub values_show : (brief : Bool) → Show → Show
+values_show true s = show.Nothing
+values_show false s = s
 
 -- this is made of a text of which that holds
 abbrev pub IsKept : Show → (List ℕ → Type 0) → (made : List ℕ) → Type 0

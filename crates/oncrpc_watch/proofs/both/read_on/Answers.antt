@@ -1,4 +1,5 @@
 use Rattle.oncrpc_watch.proofs.Joined.{goes_standing, tells_more, tells_none}
+use Rattle.oncrpc_watch.proofs.Stopped.{on_more}
 use Rattle.oncrpc_watch.proofs.both.read_on.Goals as goal
 
 pub calls-init : goal.calls-init
@@ -10,5 +11,8 @@ calls-preserved g c = record {
   tells = tells_more _ _ _ _ _ _ _ _ _ c.calls.invariant.tells c.in-Ok-true.ensures.tells;
 }
 
-pub returns-in-Ok-false : goal.returns-in-Ok-false
-returns-in-Ok-false g c = tells_more _ _ _ _ _ _ _ _ _ c.calls.invariant.tells c.in-Ok-false.ensures.tells
+pub returns-in-Ok-false-clause-tells : goal.returns-in-Ok-false-clause-tells
+returns-in-Ok-false-clause-tells g c = tells_more _ _ _ _ _ _ _ _ _ c.calls.invariant.tells c.in-Ok-false.ensures.tells
+
+pub returns-in-Err-clause-stops : goal.returns-in-Err-clause-stops
+returns-in-Err-clause-stops g c = on_more _ _ _ _ _ _ _ _ _ c.calls.invariant.tells c.in-Err.ensures.stops

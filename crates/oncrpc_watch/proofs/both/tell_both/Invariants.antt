@@ -1,20 +1,20 @@
 use Rattle.rpc_record.specs.Streamed.{most_to_come}
-use Rattle.oncrpc_watch.specs.Private.Steps.{IsStanding, TellsBoth, reached}
+use Rattle.oncrpc_watch.specs.Private.Steps.{IsStanding, TellsBoth, reached, sunk}
 use Rattle.oncrpc_watch.proofs.both.tell_both.Given as goal
 
 abbrev pub invariant-replies : goal.invariant-replies
 invariant-replies g l = record {
   of_calls : IsStanding
-      (reached l.calls.ended l.calls.records l.calls.name.now (g.I.Source.left l.calls.source.source));
+      (reached g.I.Source.left g.I.Source.failures g.I.Source.reads l.calls);
   of_replies : IsStanding
-      (reached l.replies.ended l.replies.records l.replies.name.now (g.R.Source.left l.replies.source.source));
+      (reached g.R.Source.left g.R.Source.failures g.R.Source.reads l.replies);
   tells : TellsBoth
-      (reached l.fn.calls.ended l.fn.calls.records l.fn.calls.name.now (g.I.Source.left l.fn.calls.source.source))
-      (reached l.calls.ended l.calls.records l.calls.name.now (g.I.Source.left l.calls.source.source))
-      (reached l.fn.replies.ended l.fn.replies.records l.fn.replies.name.now
-      (g.R.Source.left l.fn.replies.source.source))
-      (reached l.replies.ended l.replies.records l.replies.name.now (g.R.Source.left l.replies.source.source))
-      l.fn.watch l.watch (g.O.Sink.taken l.fn.output) (g.O.Sink.taken l.output);
+      (reached g.I.Source.left g.I.Source.failures g.I.Source.reads l.fn.calls)
+      (reached g.I.Source.left g.I.Source.failures g.I.Source.reads l.calls)
+      (reached g.R.Source.left g.R.Source.failures g.R.Source.reads l.fn.replies)
+      (reached g.R.Source.left g.R.Source.failures g.R.Source.reads l.replies)
+      l.fn.watch l.watch (sunk g.O.Sink.taken g.O.Sink.failures l.fn.output)
+      (sunk g.O.Sink.taken g.O.Sink.failures l.output);
 }
 
 abbrev pub decreases-replies : goal.decreases-replies

@@ -1,5 +1,7 @@
-use Rattle.oncrpc_capture.proofs.Printed.{on_ok, some_join}
+use Rattle.oncrpc_capture.proofs.Going.{goes_join}
+use Rattle.oncrpc_capture.proofs.Printed.{on_ok}
 use Rattle.oncrpc_capture.proofs.desk.Desk.end_flow.Goals as goal
 
-pub returns-clause-some : goal.returns-clause-some
-returns-clause-some g c = on_ok _ (λ h. some_join _ _ _ _ _ _ c.in_ok-end_side.ensures.some h) c.end_side-2.ensures.some
+pub returns-clause-goes : goal.returns-clause-goes
+returns-clause-goes g c = on_ok _
+    (λ h. goes_join _ _ _ _ _ _ _ _ _ c.in_ok-end_side.ensures.goes h) c.end_side-2.ensures.goes

@@ -1,5 +1,5 @@
-use Rattle.oncrpc_capture.proofs.Printed.{some_none}
+use Rattle.oncrpc_capture.proofs.Going.{goes_none}
 use Rattle.oncrpc_capture.proofs.desk.Desk.end_other.Goals as goal
 
-pub returns-then-not-is_other-clause-some : goal.returns-then-not-is_other-clause-some
-returns-then-not-is_other-clause-some g c = some_none _ _
+pub returns-then-not-is_other-clause-goes : goal.returns-then-not-is_other-clause-goes
+returns-then-not-is_other-clause-goes g c = goes_none _ _ _

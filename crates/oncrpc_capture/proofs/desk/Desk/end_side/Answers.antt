@@ -1,10 +1,12 @@
-use Rattle.oncrpc_capture.proofs.Printed.{on_ok, some_join, some_none}
+use Rattle.oncrpc_capture.proofs.Going.{goes_join, goes_none}
+use Rattle.oncrpc_capture.proofs.Printed.{on_ok}
 use Rattle.oncrpc_capture.proofs.desk.Desk.end_side.Goals as goal
 
-pub returns-in_default-clause-some : goal.returns-in_default-clause-some
-returns-in_default-clause-some g c = some_none _ _
+pub returns-in_default-clause-goes : goal.returns-in_default-clause-goes
+returns-in_default-clause-goes g c = goes_none _ _ _
 
-pub returns-clause-some : goal.returns-clause-some
-returns-clause-some g c = on_ok _
-    (λ h. some_join _ _ _ _ _ _ (some_join _ _ _ _ _ _ c.in_ok-records.ensures.some c.in_ok-read_held.ensures.some) h)
-    c.tell_left.ensures.some
+pub returns-clause-goes : goal.returns-clause-goes
+returns-clause-goes g c = on_ok _
+    (λ h. goes_join _ _ _ _ _ _ _ _ _ (goes_join _ _ _ _ _ _ _ _ _ c.in_ok-records.ensures.goes
+    c.in_ok-read_held.ensures.goes) h)
+    c.tell_left.ensures.goes

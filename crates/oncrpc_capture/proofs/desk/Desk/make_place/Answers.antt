@@ -1,5 +1,5 @@
-use Rattle.oncrpc_capture.proofs.Printed.{some_none}
+use Rattle.oncrpc_capture.proofs.Going.{goes_none}
 use Rattle.oncrpc_capture.proofs.desk.Desk.make_place.Goals as goal
 
-pub returns-then-not-is_full-clause-some : goal.returns-then-not-is_full-clause-some
-returns-then-not-is_full-clause-some g c = some_none _ _
+pub returns-then-not-is_full-clause-goes : goal.returns-then-not-is_full-clause-goes
+returns-then-not-is_full-clause-goes g c = goes_none _ _ _

@@ -14,8 +14,10 @@ reads-init g c =
       through = (
         [],
         Consumes-none _,
-        subst (λ n. IsThrough c.start-reader.result [] c.args.self.now.ports.now n p p t t) (sym c.requires)
-            (through_start _ _ p t c.start-reader.ensures.represents c.start-reader.ensures.gathers),
+        subst (λ n. IsThrough c.start-reader.result [] c.args.self.now.ports.now n c.args.self.now.flows p p t t)
+            (sym c.requires.first)
+            (through_start _ _ c.args.self.now.flows p t c.start-reader.ensures.represents
+            c.start-reader.ensures.gathers c.requires.begun),
       );
       ports = refl;
     }
@@ -24,8 +26,8 @@ pub reads-preserved : goal.reads-preserved
 reads-preserved g c =
     let inv = c.reads.invariant in
     record {
-      through = goes_on _ _ _ _ _ _ _ _ _ _ _ _ _ _ _ _ (ap (λ k. k.now) inv.ports) inv.through.1 inv.through.2
-          c.in-Ok.ensures.bytes.0 _ _ _ c.if-not-more.false c.in_ok-more.ensures.feeds;
+      through = goes_on _ _ _ _ _ _ _ _ _ _ _ _ _ _ _ _ _ (ap (λ k. k.now) inv.ports) inv.through.1 inv.through.2
+          c.in-Ok.ensures.bytes.0 _ _ _ _ c.if-not-more.false c.in_ok-more.ensures.feeds;
       ports = c.feed.ensures.ports ∙ inv.ports;
     }
 
@@ -33,12 +35,12 @@ pub returns-then-size-eq0 : goal.returns-then-size-eq0
 returns-then-size-eq0 g c =
     let inv = c.reads.invariant in
     on_ok _
-    (λ h. ends_there _ _ _ _ _ _ _ _ _ _ _ _ _ _ _ _ (ap (λ k. k.now) inv.ports) inv.through.1 inv.through.2
+    (λ h. ends_there _ _ _ _ _ _ _ _ _ _ _ _ _ _ _ _ _ (ap (λ k. k.now) inv.ports) inv.through.1 inv.through.2
     c.in-Ok.ensures.bytes.0 c.in-Ok.ensures.bytes.1 c.if-size-eq0.true h) c.end_file.ensures
 
 pub returns-then-not-more : goal.returns-then-not-more
 returns-then-not-more g c =
     let inv = c.reads.invariant in
     on_ok _
-    (λ h. breaks_off _ _ _ _ _ _ _ _ _ _ _ _ _ _ _ _ (ap (λ k. k.now) inv.ports) inv.through.1 inv.through.2
-    c.in-Ok.ensures.bytes.0 _ _ _ _ _ c.if-not-more.true c.in_ok-more.ensures.feeds h) c.end.ensures.some
+    (λ h. breaks_off _ _ _ _ _ _ _ _ _ _ _ _ _ _ _ _ _ (ap (λ k. k.now) inv.ports) inv.through.1 inv.through.2
+    c.in-Ok.ensures.bytes.0 _ _ _ _ _ _ _ c.if-not-more.true c.in_ok-more.ensures.feeds h) c.end.ensures.goes

@@ -1,15 +1,16 @@
 use Rattle.std.proofs.Common.{List}
 use Rattle.rpc_record.specs.Streamed.{most_to_come}
-use Rattle.oncrpc_watch.specs.Private.Steps.{IsStanding, TellsOn, reached}
+use Rattle.oncrpc_watch.specs.Private.Steps.{IsStanding, TellsOn, reached, sunk}
 use Rattle.oncrpc_watch.proofs.stream.Stream.tell_all.Given as goal
 
 abbrev pub invariant-records : goal.invariant-records
 invariant-records g l = record {
-  standing : IsStanding (reached l.self.ended l.self.records l.self.name.now (g.R.Source.left l.self.source.source));
+  standing : IsStanding (reached g.R.Source.left g.R.Source.failures g.R.Source.reads l.self);
   tells : TellsOn
-      (reached l.fn.self.ended l.fn.self.records l.fn.self.name.now (g.R.Source.left l.fn.self.source.source))
-      (reached l.self.ended l.self.records l.self.name.now (g.R.Source.left l.self.source.source))
-      l.fn.watch l.watch (g.O.Sink.taken l.fn.output) (g.O.Sink.taken l.output);
+      (reached g.R.Source.left g.R.Source.failures g.R.Source.reads l.fn.self)
+      (reached g.R.Source.left g.R.Source.failures g.R.Source.reads l.self)
+      l.fn.watch l.watch (sunk g.O.Sink.taken g.O.Sink.failures l.fn.output)
+      (sunk g.O.Sink.taken g.O.Sink.failures l.output);
 }
 
 abbrev pub decreases-records : goal.decreases-records

@@ -1,6 +1,11 @@
 //! One direction of a connection over TCP.
 //!
-//! - `records`: finds and takes the records in its bytes.
+//! - `records`: finds and takes the records in its bytes. `holes`: goes on behind what is missing.
+ghost use Rattle.std.specs.Prelude.{◌≡◌, true};
+ghost use Rattle.capture_packets.specs.View.{segment_view};
+ghost use Rattle.capture_records.specs.declared.side.Next.TheVariants.{First};
+
+mod holes;
 mod records;
 
 use crate::finding::MOST_RECORD;
@@ -9,6 +14,7 @@ use crate::step::Step;
 use crate::told::Told;
 use capture_packets::Segment;
 use capture_streams::{Direction, Ending, Refusal};
+use records::rest_of;
 use rpc_record::RecordReader;
 use std::alloc::{AllocError, Global};
 
@@ -57,9 +63,31 @@ pub struct Side {
     missing: u64,
 }
 
+// Where the first record is, where a direction begins with this segment.
+fn first_place(segment: Segment<'_>) -> Next
+    ensures { (segment_view segment.entry).flags.syn ≡ true → result ≡ First }
+{
+    if segment.flags.syn {
+        Next::First
+    } else {
+        Next::Lost
+    }
+}
+
 impl Side {
+    ghost use Rattle.std.specs.Prelude.{◌≡◌, [], None, OnOk, IfOk, IfSome, true};
+    ghost use Rattle.capture_packets.specs.View.{segment_view};
+    ghost use Rattle.capture_records.specs.Carried.{first_of};
+    ghost use Rattle.capture_records.specs.Exact.{HasTold, IsFresh, IsReading, KeepsTold, StepsTold, TakesAll};
+    ghost use Rattle.capture_records.specs.Follows.{Comes, ComesFirst, Drops, GivesUp, Has, Keeps, KeepsNotes, Steps};
+    ghost use Rattle.capture_records.specs.Follows.{untaken_of};
+
     /// Before the first segment.
-    pub fn new(alloc: Global) -> Side {
+    #[tactic(auto, using(crate::proofs::Telling::telling))]
+    pub fn new(alloc: Global) -> Side
+        ensures has { Has result [] }
+        ensures fresh { IsFresh result }
+    {
         Side {
             alloc,
             direction: None,
@@ -97,8 +125,15 @@ impl Side {
     }
 
     /// Begins with this segment, where nothing has begun. Where its beginning was seen the first record stands there.
-    pub fn begin(&mut self, segment: Segment<'_>) {
-        if self.direction.is_some() || !segment.flags.syn && is_empty(segment) {
+    pub fn begin(&mut self, segment: Segment<'_>)
+        ensures keeps { Keeps self.old self.new }
+        // With a SYN it is heard from its first byte on.
+        ensures told { IsFresh self.old → (segment_view segment.entry).flags.syn ≡ true
+            → HasTold self.new (first_of (segment_view segment.entry)) [] [] }
+        // One that has begun stays as it is.
+        ensures begun { KeepsTold self.old self.new }
+    {
+        if !self.is_begun_by(segment) {
             return;
         }
         let first = first_of(segment);
@@ -106,14 +141,28 @@ impl Side {
         self.first = first;
         self.end = first;
         self.is_whole = false;
-        self.next = Next::Lost;
-        if segment.flags.syn {
-            self.next = Next::First;
+        self.next = first_place(segment);
+    }
+
+    // Whether it begins with this segment: nothing has begun, and the segment has a byte or a SYN.
+    fn is_begun_by(&self, segment: Segment<'_>) -> bool
+        ensures none { result ≡ true → self.now.direction ≡ None }
+        ensures begins { self.now.direction ≡ None → (segment_view segment.entry).flags.syn ≡ true
+            → result ≡ true }
+    {
+        match &self.direction {
+            Some(_) => false,
+            None => segment.flags.syn || !is_empty(segment),
         }
     }
 
     /// Notes a segment: the number and the time of its packet, and where its bytes end.
-    pub fn note(&mut self, segment: Segment<'_>, packet: (u64, u64)) {
+    #[tactic(auto, using(crate::proofs::Telling::telling))]
+    pub fn note(&mut self, segment: Segment<'_>, packet: (u64, u64))
+        ensures keeps { Keeps self.old self.new }
+        ensures told { KeepsTold self.old self.new }
+        ensures fresh { IsFresh self.old → IsFresh self.new }
+    {
         self.last = packet;
         if segment.flags.reset || self.is_whole {
             return;
@@ -132,51 +181,50 @@ impl Side {
 
     /// Takes bytes of a segment that begin with this sequence number. None: all were taken. Else too many are held
     /// behind a hole, and the first so many were taken.
-    pub fn take(&mut self, sequence: u32, bytes: &[u8]) -> Result<Option<usize>, AllocError> {
+    pub fn take(&mut self, sequence: u32, bytes: &[u8]) -> Result<Option<usize>, AllocError>
+        ensures comes { OnOk result (Comes self.old self.new sequence bytes.now) }
+        // Where some were taken, those came, and no others.
+        ensures first { IfOk result (λ taken. IfSome taken (λ n. ComesFirst self.old self.new sequence bytes.now n)) }
+        // Where all were taken, all that is due waits to be told.
+        ensures told { IfOk result (λ taken. taken ≡ None → TakesAll self.old self.new sequence bytes.now) }
+    {
         self.drop_taken()?;
         let Some(direction) = &mut self.direction else {
             return Ok(None);
         };
         match direction.take(sequence, bytes, &mut self.due) {
-            Ok(()) | Err(Refusal::PlacesEnd) => Ok(None),
+            Ok(()) => Ok(None),
+            Err(Refusal::PlacesEnd) => Ok(None),
             Err(Refusal::Full { taken }) => Ok(Some(taken)),
             Err(Refusal::NoMemory { .. }) => Err(AllocError),
         }
     }
 
     // Drops what was taken of the bytes that were handed on, and their memory.
-    fn drop_taken(&mut self) -> Result<(), AllocError> {
+    fn drop_taken(&mut self) -> Result<(), AllocError>
+        ensures { OnOk result (Drops self.old self.new) }
+    {
         self.due = Vec::from_slice(self.alloc, self.untaken())?;
         self.at = 0;
         Ok(())
     }
 
     // What was handed on and not taken.
-    fn untaken(&self) -> &[u8] {
-        self.due.get(self.at..).unwrap_or(&[])
+    fn untaken(&self) -> &[u8]
+        ensures { result.now ≡ untaken_of self.now }
+    {
+        rest_of(&self.due, self.at)
     }
 
-    /// Goes on behind the first hole. False: nothing is held there.
-    pub fn go_behind(&mut self) -> Result<bool, AllocError> {
-        let Some(direction) = &mut self.direction else {
-            return Ok(false);
-        };
-        let Some(missing) = direction.skip_hole() else {
-            return Ok(false);
-        };
-        if missing != 0 {
-            self.missing = missing;
-            self.broken = self.give_up();
-        }
-        if let Some(direction) = &mut self.direction {
-            direction.hand_on(&mut self.due)?;
-        }
-        Ok(true)
-    }
-
-    /// Gives up the bytes that no record was made of, and says what is to be said of them. The next record has to be
-    /// found.
-    pub fn give_up(&mut self) -> Option<(Told, u64)> {
+    // Gives up the bytes that no record was made of, and says what is to be said of them. The next record has to be
+    // found.
+    fn give_up(&mut self) -> Option<(Told, u64)>
+        ensures gives { GivesUp self.old self.new }
+        ensures keeps { Keeps self.old self.new }
+        ensures reading { IsReading self.new.reader [] }
+        ensures notes { KeepsNotes self.old self.new }
+        ensures passed { self.new.passed ≡ 0 }
+    {
         let left = self.passed.saturating_add(self.untaken().len() as u64);
         let (told, count) = match self.next {
             Next::Here => (Told::Unfinished, self.begun),
@@ -207,7 +255,13 @@ impl Side {
     }
 
     /// The next that comes of it, where it is known to be RPC or not. A record is put into the buffer.
-    pub fn next(&mut self, known: bool, buffer: &mut Vec<u8>) -> Result<Step, AllocError> {
+    #[tactic(auto, using(crate::proofs::Reading::coming))]
+    pub fn next(&mut self, known: bool, buffer: &mut Vec<u8>) -> Result<Step, AllocError>
+        ensures steps { IfOk result (λ step. Steps self.old self.new step buffer.new.items) }
+        // Of one that is heard from its first byte on, and known to be RPC: each record is told once, in its order.
+        // Where nothing comes for now, all are that are whole up to the first hole.
+        ensures told { IfOk result (λ step. known ≡ true → StepsTold self.old self.new step buffer.new.items) }
+    {
         if let Some((told, count)) = self.broken {
             self.broken = None;
             return Ok(Step::Tells(told, count));
@@ -217,7 +271,7 @@ impl Side {
             self.missing = 0;
             return Ok(Step::Tells(Told::Missing, missing));
         }
-        if self.next == Next::Refused {
+        if let Next::Refused = self.next {
             self.next = Next::Lost;
             return Ok(Step::TooLong);
         }
@@ -243,9 +297,14 @@ impl Side {
             .saturating_add(self.due.len())
     }
 
-    /// Lets all that it holds go. The next record has to be found.
-    pub fn let_go(&mut self) {
+    /// Lets all that it holds go, and says what is to be said of bytes that no record was made of. The next record has
+    /// to be found.
+    #[tactic(auto, using(crate::proofs::Telling::telling))]
+    pub fn let_go(&mut self) -> Option<(Told, u64)>
+        ensures has { Has self.new [] }
+        ensures fresh { self.old.broken ≡ None → self.old.missing ≡ 0 → IsFresh self.new }
+    {
         self.direction = None;
-        let _given_up = self.give_up();
+        self.give_up()
     }
 }

@@ -1,8 +1,15 @@
 //! The sequence numbers of a segment (RFC 9293 section 3.4).
+ghost use Rattle.std.specs.Prelude.{◌≡◌, ◌^◌, ◌<◌};
+ghost use Rattle.capture_packets.specs.View.{segment_view};
+ghost use Rattle.capture_records.specs.Carried.{bytes_of, first_of};
+
 use capture_packets::Segment;
 
 /// The sequence number of the first byte of a segment: behind the SYN, where it has one.
-pub fn first_of(segment: Segment<'_>) -> u32 {
+pub fn first_of(segment: Segment<'_>) -> u32
+    ensures number { result ≡ first_of (segment_view segment.entry) }
+    ensures small { result < 2 ^ 32 }
+{
     if segment.flags.syn {
         segment.sequence.wrapping_add(1)
     } else {
@@ -11,7 +18,9 @@ pub fn first_of(segment: Segment<'_>) -> u32 {
 }
 
 /// The captured bytes that a segment has of its stream. What a RST carries is no part of it (section 3.5.3).
-pub fn bytes_of<'a>(segment: Segment<'a>) -> &'a [u8] {
+pub fn bytes_of<'a>(segment: Segment<'a>) -> &'a [u8]
+    ensures { result.now ≡ bytes_of (segment_view segment.entry) }
+{
     if segment.flags.reset {
         &[]
     } else {

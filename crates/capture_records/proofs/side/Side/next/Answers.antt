@@ -1,0 +1,37 @@
+use Rattle.std.proofs.Common.{◌≡◌, sym, subst, true, ◌∙◌}
+use Rattle.std.proofs.lemmas.Bool.{false≢true}
+use Rattle.std.proofs.lemmas.Result.{IfOk-weaker}
+use Rattle.capture_records.specs.declared.step.Step.{Step}
+use Rattle.capture_records.specs.Exact.{IsSynced, StepsTold}
+use Rattle.capture_records.proofs.Telling.{never_broken, steps_from, steps_never}
+use Rattle.capture_records.proofs.side.Side.next.Goals as goal
+
+pub returns-in-Some-clause-told : goal.returns-in-Some-clause-told
+returns-in-Some-clause-told c = λ known. steps_never c.args.self.now _ _ _
+    (λ first arrivals rs h. never_broken c.args.self.now first arrivals rs _ c.in-Some.is h)
+
+pub returns-then-self-ne0-clause-told : goal.returns-then-self-ne0-clause-told
+returns-then-self-ne0-clause-told c = λ known. steps_never c.args.self.now _ _ _
+    (λ first arrivals rs h. c.if-self-ne0.true h.quiet.missing)
+
+pub returns-in-Refused-clause-told : goal.returns-in-Refused-clause-told
+returns-in-Refused-clause-told c = λ known. steps_never c.args.self.now _ _ _
+    (λ first arrivals rs h. subst IsSynced c.in-Refused.is h.synced)
+
+pub returns-then-not-finds-clause-told : goal.returns-then-not-finds-clause-told
+returns-then-not-finds-clause-told c = λ known. steps_never c.args.self.now _ _ _
+    (λ first arrivals rs h. false≢true (sym c.if-not-finds.true ∙ c.finds.ensures.synced known h.synced))
+
+pub returns-then-self-ne0-2-clause-told : goal.returns-then-self-ne0-2-clause-told
+returns-then-self-ne0-2-clause-told c = λ known. steps_never c.args.self.now _ _ _
+    (λ first arrivals rs h.
+    c.if-self-ne0-2.true ((c.finds.ensures.told known).keeps first arrivals rs h).quiet.passed)
+
+pub returns-clause-told : goal.returns-clause-told
+returns-clause-told c =
+    let mid = c.finds.new.self in
+    let new = c.record.new.self in
+    let r = c.record.new.buffer.items in
+    let more : (s : Step) → StepsTold mid new s r → c.args.known ≡ true → StepsTold c.args.self.now new s r =
+    λ s t known. steps_from c.args.self.now mid new s r (c.finds.ensures.told known) t in
+    IfOk-weaker _ _ _ more c.record.ensures.told
