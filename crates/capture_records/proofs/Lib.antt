@@ -1,2 +1,4 @@
 pub mod Reading
 pub mod Telling
+pub mod Once
+pub mod Holes

@@ -23,9 +23,8 @@ use Rattle.capture_records.specs.declared.step.Step.{Step}
 use Rattle.capture_records.specs.declared.step.Step.TheVariants.{Record, Tells, TooLong, Waits}
 use Rattle.capture_records.specs.declared.told.Told.{Told}
 use Rattle.capture_records.specs.Carried.{Carries}
-use Rattle.capture_records.specs.Follows.{BeginsAnew, Comes, ComesFirst, Drops, Finds, GivesUp, Has, HasAt, IsPart}
-use Rattle.capture_records.specs.Follows.{Keeps, Passes, Reads, Steps}
-use Rattle.capture_records.specs.Follows.{untaken_of}
+use Rattle.capture_records.specs.Follows.{Comes, ComesFirst, Finds, Has, HasAt, IsPart, Keeps, Reads, Steps, untaken_of}
+use Rattle.capture_records.specs.Private.Steps.{BeginsAnew, Drops, GivesUp, Passes}
 
 -- ---- lists
 

@@ -30,7 +30,8 @@ use Rattle.capture_records.specs.declared.told.Told.{Told}
 use Rattle.capture_records.specs.Carried.{HasTooLong}
 use Rattle.capture_records.specs.Exact.{HasTold, IsFresh, IsQuiet, IsReading, IsSynced, IsToldBy, KeepsTold}
 use Rattle.capture_records.specs.Exact.{StepsTold, TakesAll, arrival_of}
-use Rattle.capture_records.specs.Follows.{Drops, untaken_of}
+use Rattle.capture_records.specs.Follows.{untaken_of}
+use Rattle.capture_records.specs.Private.Steps.{Drops}
 use Rattle.capture_records.proofs.Reading.{drop_whole, not_here, side_as}
 
 -- ---- records
@@ -212,7 +213,7 @@ drops_told old new d =
     d.missing d.passed
 
 -- the direction is the one that is there
-direction_same : (d e : Direction) → Some d ≡ Some e → d ≡ e
+pub direction_same : (d e : Direction) → Some d ≡ Some e → d ≡ e
 direction_same d e same = cc
 
 module _ (old mid new : Side) (drops : Drops old mid) (sequence : ℕ) (bytes : List ℕ) where
@@ -291,8 +292,8 @@ steps_from old mid new s r keeps steps =
     record { steps = λ first arrivals rs h. steps.steps first arrivals rs (keeps.keeps first arrivals rs h) }
 
 -- the run of the bytes
-run_of : (side : Side) (first : ℕ) (arrivals : List Arrival) (rs : List (List ℕ)) (h : HasTold side first arrivals rs)
-    → IsRun (given first arrivals) 0 h.handed
+pub run_of : (side : Side) (first : ℕ) (arrivals : List Arrival) (rs : List (List ℕ))
+    (h : HasTold side first arrivals rs) → IsRun (given first arrivals) 0 h.handed
 run_of side first arrivals rs h =
     subst (λ (k : ℕ). IsRun (given k arrivals) 0 h.handed) h.first_is
     (handed_is_the_run h.direction arrivals 0 h.handed h.stands h.hole)

@@ -1,3 +1,6 @@
 pub mod Carried
 pub mod Exact
 pub mod Follows
+pub mod Holes
+pub mod Laws
+pub mod Private

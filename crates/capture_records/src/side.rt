@@ -79,8 +79,8 @@ impl Side {
     ghost use Rattle.capture_packets.specs.View.{segment_view};
     ghost use Rattle.capture_records.specs.Carried.{first_of};
     ghost use Rattle.capture_records.specs.Exact.{HasTold, IsFresh, IsReading, KeepsTold, StepsTold, TakesAll};
-    ghost use Rattle.capture_records.specs.Follows.{Comes, ComesFirst, Drops, GivesUp, Has, Keeps, KeepsNotes, Steps};
-    ghost use Rattle.capture_records.specs.Follows.{untaken_of};
+    ghost use Rattle.capture_records.specs.Follows.{Comes, ComesFirst, Has, Keeps, Steps, untaken_of};
+    ghost use Rattle.capture_records.specs.Private.Steps.{Drops, GivesUp, KeepsNotes};
 
     /// Before the first segment.
     #[tactic(auto, using(crate::proofs::Telling::telling))]

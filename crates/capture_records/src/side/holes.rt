@@ -3,13 +3,17 @@ use super::Side;
 use std::alloc::AllocError;
 
 impl Side {
-    ghost use Rattle.std.specs.Prelude.{◌≡◌, OnOk};
+    ghost use Rattle.std.specs.Prelude.{◌≡◌, OnOk, IfOk, true, false};
     ghost use Rattle.capture_records.specs.Follows.{Keeps};
+    ghost use Rattle.capture_records.specs.Holes.{GoesBehind, HoldsNone};
 
     /// Goes on behind the first hole. False: nothing is held there.
     #[tactic(auto, using(crate::proofs::Reading::drops_keeps, crate::proofs::Reading::keeps_join))]
     pub fn go_behind(&mut self) -> Result<bool, AllocError>
-        ensures { OnOk result (Keeps self.old self.new) }
+        ensures keeps { OnOk result (Keeps self.old self.new) }
+        ensures none { IfOk result (λ went. went ≡ false → HoldsNone self.old) }
+        // The bytes of the hole are told as missing.
+        ensures behind { IfOk result (λ went. went ≡ true → GoesBehind self.old self.new) }
     {
         self.drop_taken()?;
         if !self.skip_hole() {
@@ -23,6 +27,8 @@ impl Side {
     fn skip_hole(&mut self) -> bool
         ensures keeps { Keeps self.old self.new }
         ensures at { self.old.at ≡ 0 → self.new.at ≡ 0 }
+        ensures none { result ≡ false → HoldsNone self.old }
+        ensures behind { result ≡ true → GoesBehind self.old self.new }
     {
         let Some(direction) = &mut self.direction else {
             return false;
@@ -41,7 +47,8 @@ impl Side {
     // Hands on what is due.
     fn hand_on(&mut self) -> Result<(), AllocError>
         requires { self.old.at ≡ 0 }
-        ensures { OnOk result (Keeps self.old self.new) }
+        ensures keeps { OnOk result (Keeps self.old self.new) }
+        ensures missing { OnOk result (self.new.missing ≡ self.old.missing) }
     {
         match &mut self.direction {
             Some(direction) => {

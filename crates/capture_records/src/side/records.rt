@@ -11,7 +11,8 @@ use std::alloc::AllocError;
 impl Side {
     ghost use Rattle.std.specs.Prelude.{◌≡◌, [], IfOk, true};
     ghost use Rattle.capture_records.specs.Exact.{IsReading, IsSynced, KeepsTold, StepsTold};
-    ghost use Rattle.capture_records.specs.Follows.{Advances, BeginsAnew, Keeps, KeepsRest, Passes, Steps};
+    ghost use Rattle.capture_records.specs.Follows.{Keeps, Steps};
+    ghost use Rattle.capture_records.specs.Private.Steps.{Advances, BeginsAnew, KeepsRest, Passes};
     ghost use Rattle.capture_records.specs.declared.side.Next.TheVariants.{First, Here};
     ghost use Rattle.capture_records.specs.declared.step.Step.TheVariants.{Record, Waits};
 

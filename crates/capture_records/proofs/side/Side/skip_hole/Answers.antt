@@ -1,5 +1,6 @@
 use Rattle.capture_records.proofs.Reading.{side_next, side_same, side_skipped}
-use Rattle.std.proofs.Common.{ℕ, Some, ap, refl, subst, sym, ◌∙◌}
+use Rattle.capture_records.proofs.Holes.{goes_behind, none_held}
+use Rattle.std.proofs.Common.{ℕ, Some, ap, arith, refl, subst, sym, ◌∙◌}
 use Rattle.capture_streams.specs.Taking.{Skips}
 use Rattle.capture_records.proofs.side.Side.skip_hole.Goals as goal
 
@@ -20,3 +21,20 @@ returns-in-Some-skip_hole-clause-keeps c =
     let gives = c.give_up-self.ensures.gives in
     side_skipped c.args.self.now _ c.in-Some.direction c.skip_hole.new.self c.in-Some-skip_hole.missing c.in-Some.is
     gives.direction c.in-Some-skip_hole.ensures.skips gives.reader gives.at gives.due
+
+pub returns-in-None-clause-none : goal.returns-in-None-clause-none
+returns-in-None-clause-none c = λ went.
+    none_held c.args.self.now c.in-Some.direction c.skip_hole.new.self c.in-Some.is c.in-None.ensures.skips
+
+pub returns-in-Some-eq0-clause-behind : goal.returns-in-Some-eq0-clause-behind
+returns-in-Some-eq0-clause-behind c = λ went.
+    let d = c.in-Some.direction in
+    let new = c.skip_hole.new.self in
+    goes_behind c.args.self.now _ d new 0 c.in-Some.is
+    (subst (λ (k : ℕ). Skips d new (Some k)) c.in-Some-eq0.field-0-test c.in-Some-eq0.ensures.skips)
+    (λ some. absurd (omega (arith, some)))
+
+pub returns-in-Some-skip_hole-clause-behind : goal.returns-in-Some-skip_hole-clause-behind
+returns-in-Some-skip_hole-clause-behind c = λ went.
+    goes_behind c.args.self.now _ c.in-Some.direction c.skip_hole.new.self c.in-Some-skip_hole.missing c.in-Some.is
+    c.in-Some-skip_hole.ensures.skips (λ some. c.give_up-self.ensures.notes.missing)
