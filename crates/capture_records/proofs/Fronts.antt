@@ -19,7 +19,7 @@ fragment_front : (bytes : List ℕ) → 20 ≤ length bytes → word_at 0 bytes 
     → IsFragmentFront bytes
 fragment_front bytes long small least most front =
     elim (header_parts (word_at 0 bytes) small) [
-      inl e ↦ record {
+      | inl e ↦ record {
         long = long;
         last = false;
         size = word_at 0 bytes % 2 ^ 31;
@@ -28,7 +28,7 @@ fragment_front bytes long small least most front =
         most = most;
         front = front;
       }
-    | inr e ↦ record {
+      | inr e ↦ record {
         long = long;
         last = true;
         size = word_at 0 bytes % 2 ^ 31;
@@ -58,10 +58,10 @@ least_is : (bytes : List ℕ) (least : ℕ) → IsMessageFront bytes → (IsCall
     → least ≤ size
 least_is bytes least front call accepted denied size may =
     elim front.kind [
-      inl a ↦ omega (arith, call a, may.call a)
-    | inr other ↦ elim other [
-        inl a ↦ omega (arith, accepted a, may.accepted a)
-      | inr a ↦ omega (arith, denied a, may.denied a)
+      | inl a ↦ omega (arith, call a, may.call a)
+      | inr other ↦ elim other [
+        | inl a ↦ omega (arith, accepted a, may.accepted a)
+        | inr a ↦ omega (arith, denied a, may.denied a)
       ]
     ]
 

@@ -1,3 +1,4 @@
 pub mod Fronts
 pub mod Reading
+pub mod Seeking
 pub mod Telling
