@@ -1,6 +1,6 @@
 -- Where a record begins that reads as a message.
-use Rattle.std.proofs.Common.{◌≡◌, ◌↔◌, ◌⊎◌, inl, inr, ℕ, ◌+◌, ◌-◌, ◌*◌, ◌/◌, ◌%◌, ◌^◌, ◌<◌, ◌≤◌, Bool, true, false, leb}
-use Rattle.std.proofs.Common.{List, length, drop, IsTrue, arith, sym, subst}
+use Rattle.std.proofs.Common.{◌≡◌, ◌↔◌, ◌⊎◌, inl, inr, ℕ, ◌+◌, ◌-◌, ◌*◌, ◌/◌, ◌%◌, ◌^◌, ◌<◌, ◌≤◌, Bool, true, false}
+use Rattle.std.proofs.Common.{leb, List, length, drop, IsTrue, arith, sym, subst}
 use Rattle.std.proofs.lemmas.Bool.{cases_lt, le-leb, leb-true}
 use Rattle.capture_records.specs.declared.finding.TheConstants.{MOST_RECORD}
 use Rattle.capture_records.specs.Finding.{IsAccepted, IsCall, IsDenied, IsFragmentFront}

@@ -21,7 +21,8 @@ IsAccepted bytes = (word_at 4 bytes ≡ 1) × (word_at 8 bytes ≡ 0)
 abbrev pub IsDenied : List ℕ → Type 0
 IsDenied bytes = (word_at 4 bytes ≡ 1) × (word_at 8 bytes ≡ 1)
 
--- The bytes begin as a message does: its first three numbers are there, and make a call or a reply (RFC 5531 section 9).
+-- The bytes begin as a message does: its first three numbers are there, and are a call's or a reply's (RFC 5531 section
+-- 9).
 pub record IsMessageFront (bytes : List ℕ) : Type 0 where
   pub long : 12 ≤ length bytes
   pub kind : IsCall bytes ⊎ (IsAccepted bytes ⊎ IsDenied bytes)

@@ -75,8 +75,9 @@ pub record ReadsAtOnce (old : Side) (step : Step) : Type 0 where
   pub none : old.passed ≡ 0
   pub passes : PassesNone step
 
--- What comes next, known to be RPC or not. Where a record has begun it is told as where that is known, and where too few
--- bytes are there nothing comes. Where the next record has to be found it is the first whose front stands there.
+-- What comes next, known to be RPC or not. Where a record has begun it is told as where that is known. Where too few
+-- bytes are there to know it nothing comes. Where the next record has to be found it is the first whose front stands
+-- there.
 pub record NextFinds (old new : Side) (known : Bool) (step : Step) (r : List ℕ) : Type 0 where
   pub begun : HasBegun old → StepsTold old new step r
   pub waits : WaitsToBeKnown known old → (step ≡ Waits) × KeepsTold old new
