@@ -1,5 +1,5 @@
 -- What is left of the bytes that wait where the next record is looked for.
-use Rattle.std.specs.Prelude.{◌≡◌, ℕ, ◌⊎◌, Bool, true, false, List, drop}
+use Rattle.std.specs.Prelude.{◌≡◌, ℕ, ◌⊎◌, Bool, true, false, drop}
 use Rattle.capture_records.specs.declared.side.Next.TheVariants.{Lost}
 use Rattle.capture_records.specs.declared.side.Side.{Side}
 use Rattle.capture_records.specs.Finding.{HasNoRecord, IsFirstRecord}
