@@ -80,7 +80,9 @@ impl Side {
     ghost use Rattle.capture_records.specs.Carried.{first_of};
     ghost use Rattle.capture_records.specs.Exact.{HasTold, IsFresh, IsReading, KeepsTold, StepsTold, TakesAll};
     ghost use Rattle.capture_records.specs.Follows.{Comes, ComesFirst, Has, Keeps, Steps, untaken_of};
+    ghost use Rattle.capture_records.specs.Holes.{TellsNotes};
     ghost use Rattle.capture_records.specs.Private.Steps.{Drops, GivesUp, KeepsNotes};
+    ghost use Rattle.capture_records.specs.Sought.{NextFinds};
 
     /// Before the first segment.
     #[tactic(auto, using(crate::proofs::Telling::telling))]
@@ -261,6 +263,11 @@ impl Side {
         // Of one that is heard from its first byte on, and known to be RPC: each record is told once, in its order.
         // Where nothing comes for now, all are that are whole up to the first hole.
         ensures told { IfOk result (λ step. known ≡ true → StepsTold self.old self.new step buffer.new.items) }
+        // Where a record has begun it is told so before that is known. Where the next record has to be found it is the
+        // first whose front stands in the bytes that wait.
+        ensures finds { IfOk result (λ step. NextFinds self.old self.new known step buffer.new.items) }
+        // What is to be said of a hole, or of a header that no record has, comes first.
+        ensures notes { IfOk result (λ step. TellsNotes self.old step) }
     {
         if let Some((told, count)) = self.broken {
             self.broken = None;

@@ -9,10 +9,12 @@ use rpc_record::{RecordFault, RecordReader, RecordStep};
 use std::alloc::AllocError;
 
 impl Side {
-    ghost use Rattle.std.specs.Prelude.{◌≡◌, [], IfOk, true};
+    ghost use Rattle.std.specs.Prelude.{◌≡◌, [], IfOk, true, false};
     ghost use Rattle.capture_records.specs.Exact.{IsReading, IsSynced, KeepsTold, StepsTold};
     ghost use Rattle.capture_records.specs.Follows.{Keeps, Steps};
+    ghost use Rattle.capture_records.specs.Private.Leaving.{Leaves, StartsHere};
     ghost use Rattle.capture_records.specs.Private.Steps.{Advances, BeginsAnew, KeepsRest, Passes};
+    ghost use Rattle.capture_records.specs.Sought.{IsSought, IsStrange, PassesNone, WaitsToBeKnown, with_passed};
     ghost use Rattle.capture_records.specs.declared.side.Next.TheVariants.{First, Here};
     ghost use Rattle.capture_records.specs.declared.step.Step.TheVariants.{Record, Waits};
 
@@ -21,8 +23,10 @@ impl Side {
     pub(super) fn finds(&mut self, known: bool) -> bool
         ensures keeps { Keeps self.old self.new }
         ensures here { result ≡ true → self.new.next ≡ Here }
-        ensures told { known ≡ true → KeepsTold self.old self.new }
-        ensures synced { known ≡ true → IsSynced self.old.next → result ≡ true }
+        ensures told { StartsHere known self.old → KeepsTold self.old self.new }
+        ensures synced { StartsHere known self.old → IsSynced self.old.next → result ≡ true }
+        ensures waits { WaitsToBeKnown known self.old → (result ≡ false) × KeepsTold self.old self.new }
+        ensures leaves { IsSought known self.old → Leaves self.old self.new result }
     {
         match self.next {
             Next::Here => true,
@@ -38,8 +42,10 @@ impl Side {
         requires { self.old.next ≡ First }
         ensures keeps { Keeps self.old self.new }
         ensures here { result ≡ true → self.new.next ≡ Here }
-        ensures told { known ≡ true → KeepsTold self.old self.new }
-        ensures found { known ≡ true → result ≡ true }
+        ensures told { StartsHere known self.old → KeepsTold self.old self.new }
+        ensures found { StartsHere known self.old → result ≡ true }
+        ensures waits { WaitsToBeKnown known self.old → (result ≡ false) × KeepsTold self.old self.new }
+        ensures leaves { IsStrange known self.old → Leaves self.old self.new result }
     {
         if known || begins_fragment(self.untaken()) {
             self.next = Next::Here;
@@ -56,6 +62,7 @@ impl Side {
         requires { self.old.next ≡ Here → ⊥ }
         ensures keeps { Keeps self.old self.new }
         ensures here { result ≡ true → self.new.next ≡ Here }
+        ensures leaves { Leaves self.old self.new result }
     {
         match record_in(self.untaken()) {
             None => {
@@ -74,7 +81,8 @@ impl Side {
 
     // Passes over so many bytes.
     fn pass(&mut self, count: usize)
-        ensures { Passes self.old self.new count }
+        ensures passes { Passes self.old self.new count }
+        ensures counts { self.new.passed ≡ with_passed self.old count }
     {
         self.passed = self.passed.saturating_add(count as u64);
         self.advance(count);
@@ -92,6 +100,7 @@ impl Side {
         requires { self.old.next ≡ Here }
         ensures steps { IfOk result (λ step. Steps self.old self.new step buffer.new.items) }
         ensures told { IfOk result (λ step. StepsTold self.old self.new step buffer.new.items) }
+        ensures passes { IfOk result PassesNone }
     {
         let untaken = rest_of(&self.due, self.at);
         let left = untaken.len();
@@ -118,6 +127,7 @@ impl Side {
         ensures anew { BeginsAnew self.old self.new }
         ensures other { result ≡ Record → ⊥ }
         ensures tells { result ≡ Waits → ⊥ }
+        ensures passes { PassesNone result }
     {
         let begun = self.begun;
         self.begin_anew();

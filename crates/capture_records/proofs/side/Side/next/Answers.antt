@@ -1,8 +1,10 @@
-use Rattle.std.proofs.Common.{◌≡◌, sym, subst, true, ◌∙◌}
+use Rattle.std.proofs.Common.{◌≡◌, inl, sym, subst, true, refl, ◌∙◌}
 use Rattle.std.proofs.lemmas.Bool.{false≢true}
 use Rattle.std.proofs.lemmas.Result.{IfOk-weaker}
 use Rattle.capture_records.specs.declared.step.Step.{Step}
 use Rattle.capture_records.specs.Exact.{IsSynced, StepsTold}
+use Rattle.capture_records.specs.Sought.{PassesNone}
+use Rattle.capture_records.proofs.Seeking.{both_ok, finds_over, finds_there}
 use Rattle.capture_records.proofs.Telling.{never_broken, steps_from, steps_never}
 use Rattle.capture_records.proofs.side.Side.next.Goals as goal
 
@@ -20,12 +22,12 @@ returns-in-Refused-clause-told c = λ known. steps_never c.args.self.now _ _ _
 
 pub returns-then-not-finds-clause-told : goal.returns-then-not-finds-clause-told
 returns-then-not-finds-clause-told c = λ known. steps_never c.args.self.now _ _ _
-    (λ first arrivals rs h. false≢true (sym c.if-not-finds.true ∙ c.finds.ensures.synced known h.synced))
+    (λ first arrivals rs h. false≢true (sym c.if-not-finds.true ∙ c.finds.ensures.synced (inl known) h.synced))
 
 pub returns-then-self-ne0-2-clause-told : goal.returns-then-self-ne0-2-clause-told
 returns-then-self-ne0-2-clause-told c = λ known. steps_never c.args.self.now _ _ _
     (λ first arrivals rs h.
-    c.if-self-ne0-2.true ((c.finds.ensures.told known).keeps first arrivals rs h).quiet.passed)
+    c.if-self-ne0-2.true ((c.finds.ensures.told (inl known)).keeps first arrivals rs h).quiet.passed)
 
 pub returns-clause-told : goal.returns-clause-told
 returns-clause-told c =
@@ -33,5 +35,22 @@ returns-clause-told c =
     let new = c.record.new.self in
     let r = c.record.new.buffer.items in
     let more : (s : Step) → StepsTold mid new s r → c.args.known ≡ true → StepsTold c.args.self.now new s r =
-    λ s t known. steps_from c.args.self.now mid new s r (c.finds.ensures.told known) t in
+    λ s t known. steps_from c.args.self.now mid new s r (c.finds.ensures.told (inl known)) t in
     IfOk-weaker _ _ _ more c.record.ensures.told
+
+pub returns-then-self-ne0-2-clause-finds : goal.returns-then-self-ne0-2-clause-finds
+returns-then-self-ne0-2-clause-finds c =
+    let f = c.finds.ensures in
+    finds_over c.args.self.now c.finds.new.self _ c.args.known c.finds.result _ c.if-not-finds.false f.told f.waits
+    f.leaves c.if-self-ne0-2.true refl refl (f.here c.if-not-finds.false)
+
+pub returns-clause-finds : goal.returns-clause-finds
+returns-clause-finds c =
+    let f = c.finds.ensures in
+    let mid = c.finds.new.self in
+    let new = c.record.new.self in
+    let r = c.record.new.buffer.items in
+    let both = both_ok (λ (s : Step). StepsTold mid new s r) PassesNone c.record.result c.record.ensures.told
+    c.record.ensures.passes in
+    IfOk-weaker _ _ _ (finds_there c.args.self.now mid new c.args.known c.finds.result r c.if-not-finds.false f.told
+    f.waits f.leaves c.if-self-ne0-2.false) both
