@@ -28,8 +28,8 @@ pub record GoesBehind (old new : Side) : Type 0 where
       → (b : ℕ) × (given direction.first arrivals (direction.due + count) ≡ Some b)
   pub told : 0 < count → new.missing ≡ count
 
--- What is to be said comes first: of the bytes before a hole, how many are missing there, and of a header that no record
--- has.
+-- What is to be said comes first: of the bytes before a hole, how many are missing there, and of a header that no
+-- record has.
 pub record TellsNotes (old : Side) (step : Step) : Type 0 where
   pub broken : (told : Told) (count : ℕ) → old.broken ≡ Some (told, count) → step ≡ Tells told count
   pub missing : old.broken ≡ None → (old.missing ≡ 0 → ⊥) → step ≡ Tells Missing old.missing
