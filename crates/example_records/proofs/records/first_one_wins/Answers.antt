@@ -16,7 +16,8 @@ returns c =
       no_long = c.too_long_ends_the_stream.ensures.none;
     } in
     let t = came law 0 [] [] run_none c.begin_by.new.side c.take_all.new.side [] 0
-    (128 ∷ 0 ∷ 0 ∷ 4 ∷ 1 ∷ 2 ∷ []) (omega arith) c.in_ok-take_all.ensures (c.begin_by.ensures c.new-side.ensures.fresh) in
+    (128 ∷ 0 ∷ 0 ∷ 4 ∷ 1 ∷ 2 ∷ []) (omega arith) c.in_ok-take_all.ensures
+    (c.begin_by.ensures c.new-side.ensures.fresh) in
     let u = came law 0 six (128 ∷ 0 ∷ 0 ∷ 4 ∷ 1 ∷ 2 ∷ []) run_six c.take_all.new.side c.take_all-2.new.side [] 4
     (9 ∷ 9 ∷ 3 ∷ 4 ∷ []) (omega arith) c.in_ok-take_all-2.ensures t in
     let s = comes law 0 over marked run_over front content marked_whole c.in_ok-step.step c.next.new.self
