@@ -8,14 +8,14 @@ use Rattle.capture_streams.specs.declared.direction.Direction.{Direction}
 use Rattle.capture_streams.specs.Represents.{IsAtHole, IsOfSame, Stands}
 use Rattle.capture_streams.specs.Segments.{Arrival, IsRun, given}
 use Rattle.capture_streams.specs.Taking.{Takes}
-use Rattle.capture_streams.proofs.Given.{handed_is_the_run}
+use Rattle.capture_streams.proofs.Given.{handed_is_the_run, one_run}
 use Rattle.rpc_record.specs.declared.fault.RecordFault.{RecordFault}
 use Rattle.rpc_record.specs.declared.fault.RecordFault.TheVariants as fault
 use Rattle.rpc_record.specs.declared.fault.RecordStep.{RecordStep}
 use Rattle.rpc_record.specs.declared.fault.RecordStep.TheVariants as answer
 use Rattle.rpc_record.specs.declared.reader.RecordReader.{RecordReader}
 use Rattle.rpc_record.specs.Marked.{Longest, Marked, Stream, fragment, header}
-use Rattle.rpc_record.specs.Reading.{Faulty, IsFeedFault, IsWhole, TooLongAt, capped}
+use Rattle.rpc_record.specs.Reading.{Faulty, HasNoLong, IsFeedFault, IsWhole, TooLongAt, capped}
 use Rattle.rpc_record.specs.Represents as record_of
 use Rattle.rpc_record.specs.Represents.{After, Feeds, Fills, IsFilled, Reports, Represents}
 use Rattle.rpc_record.proofs.Longest.{one_reading}
@@ -32,6 +32,7 @@ use Rattle.capture_records.specs.Exact.{HasTold, IsFresh, IsQuiet, IsReading, Is
 use Rattle.capture_records.specs.Exact.{StepsTold, TakesAll, arrival_of}
 use Rattle.capture_records.specs.Follows.{untaken_of}
 use Rattle.capture_records.specs.Private.Steps.{Drops}
+use Rattle.capture_records.proofs.Long.{long_behind, long_of, no_long_behind, none_long}
 use Rattle.capture_records.proofs.Reading.{drop_whole, not_here, side_as}
 
 -- ---- records
@@ -68,38 +69,6 @@ whole_more limit rs whole part r w one =
           (Stream-push rs whole s.0 r w.stream s.1.1.0);
       within = All-push (λ (x : List ℕ). length x ≤ limit) rs r w.within (one.within 0 [] (omega arith));
     }
-
--- records, and behind them a header that passes the limit
-long_behind : (limit at : ℕ) (rs : List (List ℕ)) (whole part : List ℕ) → IsWhole limit rs whole
-    → TooLongAt limit [] at part → (place : ℕ) × TooLongAt limit rs place (whole ++ part)
-long_behind limit at rs whole part w t =
-    let u = t.upto in (
-      capped (length (whole ++ t.before)),
-      record {
-        before = whole ++ t.before;
-        content = t.content;
-        last = t.last;
-        count = t.count;
-        more = t.more;
-        upto = record {
-          whole = whole;
-          firsts = u.firsts;
-          stream = w.stream;
-          within = w.within;
-          each = u.each;
-          fits = u.fits;
-          joined = u.joined;
-          spelled = ap (λ (k : List ℕ). whole ++ k)
-              (u.spelled ∙ ap (λ (k : List ℕ). k ++ flat_map (fragment false) u.firsts) u.stream);
-        };
-        place = refl;
-        counted = t.counted;
-        passes = t.passes;
-        spelled =
-            ap (λ (k : List ℕ). whole ++ k) t.spelled
-            ∙ sym (append_assoc whole t.before (header t.last t.count ++ t.more));
-      },
-    )
 
 -- ---- nothing changes
 
@@ -340,9 +309,10 @@ told_record old new used piece r s same reading synced f g i rest all whole fill
 pub told_more : (old new : Side) (reader : RecordReader) (piece r : List ℕ) (s : RecordStep)
     → new.direction ≡ old.direction → new.next ≡ old.next → new.broken ≡ old.broken → new.missing ≡ old.missing
     → new.passed ≡ old.passed → new.reader ≡ reader → reader.limit ≡ old.reader.limit → piece ≡ untaken_of old
-    → s ≡ answer.More → Fills old.reader reader piece r (Ok s) → untaken_of new ≡ drop (length piece) (untaken_of old)
+    → s ≡ answer.More → Fills old.reader reader piece r (Ok s) → Reports old.reader piece (Ok s)
+    → untaken_of new ≡ drop (length piece) (untaken_of old)
     → StepsTold old new step.Waits r
-told_more old new reader piece r s same c f g i same_reader limit all more fills rest = record {
+told_more old new reader piece r s same c f g i same_reader limit all more fills reports rest = record {
   steps = λ first arrivals rs h.
       let is : Fills old.reader reader piece r (Ok answer.More) =
       subst (λ x. Fills old.reader reader piece r (Ok x)) more fills in
@@ -353,6 +323,8 @@ told_more old new reader piece r s same c f g i same_reader limit all more fills
       let most : reader.limit ≡ MOST_RECORD = limit ∙ h.reading.limit in
       let none : untaken_of new ≡ [] =
       rest ∙ drop_whole (length piece) (untaken_of old) (ap (λ (x : List ℕ). length x) all) in
+      let none_there : HasNoLong MOST_RECORD (h.begun ++ untaken_of old) =
+      none_long old.reader piece h.begun (untaken_of old) s all more reports h.reading in
       let longest : Longest MOST_RECORD rs h.handed =
       subst (λ (k : List ℕ). Longest MOST_RECORD rs k) (sym h.joined)
       (longest_behind MOST_RECORD rs h.whole (h.begun ++ untaken_of old) h.records
@@ -375,6 +347,11 @@ told_more old new reader piece r s same c f g i same_reader limit all more fills
           quiet = quiet_same old new f g i h.quiet;
         },
         record { stream = h.handed; run = run_of old first arrivals rs h; records = longest },
+        λ long.
+            let one : long.stream ≡ h.handed =
+            one_run (given first arrivals) 0 long.stream h.handed long.run (run_of old first arrivals rs h) in
+            no_long_behind MOST_RECORD long.at rs h.whole (h.begun ++ untaken_of old) h.records none_there
+            (subst (λ (k : List ℕ). TooLongAt MOST_RECORD rs long.at k) (one ∙ h.joined) long.long),
       );
 }
 
@@ -386,16 +363,6 @@ long_step step.Record new first arrivals rs r other tells h = absurd (other refl
 long_step step.Waits new first arrivals rs r other tells h = absurd (tells refl)
 long_step (step.Tells told count) new first arrivals rs r other tells h = h
 long_step step.TooLong new first arrivals rs r other tells h = h
-
--- which fault that is
-long_of : (f : RecordFault) (limit : ℕ) (bytes : List ℕ) → (f ≡ fault.NoMemory → ⊥)
-    → IsFeedFault f → Faulty limit [] f bytes → (at : ℕ) × TooLongAt limit [] at bytes
-long_of (fault.TooLong at) limit bytes memory feeds h = (at, h)
-long_of fault.NoMemory limit bytes memory feeds h = absurd (memory refl)
-long_of (fault.Truncated at) limit bytes memory feeds h = absurd feeds
-long_of fault.Read limit bytes memory feeds h = absurd feeds
-long_of (fault.Write written) limit bytes memory feeds h = absurd feeds
-long_of fault.TooManyReads limit bytes memory feeds h = absurd feeds
 
 pub told_long : (old new : Side) (s : Step) (piece r : List ℕ) (f : RecordFault) (reader : RecordReader)
     → (f ≡ fault.NoMemory → ⊥) → piece ≡ untaken_of old → Feeds old.reader reader piece (Err f)

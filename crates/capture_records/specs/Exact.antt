@@ -73,11 +73,12 @@ pub record TakesAll (old new : Side) (sequence : ℕ) (bytes : List ℕ) : Type 
       → length h.handed ≤ 2 ^ 62
       → HasTold new first (arrivals ++ arrival_of (length h.handed) sequence bytes ∷ []) rs
 
--- What came next. A record: it was told behind the others. Nothing for now: those that were told are all. Else a header
--- passes the limit of a record.
+-- What came next. A record: it was told behind the others. Nothing for now: those that were told are all, and no header
+-- behind them passes the limit of a record. Else one does.
 abbrev pub IsToldBy : Step → Side → (first : ℕ) → List Arrival → List (List ℕ) → (r : List ℕ) → Type 0
 IsToldBy Record new first arrivals rs r = HasTold new first arrivals (rs ++ r ∷ [])
-IsToldBy Waits new first arrivals rs r = HasTold new first arrivals rs × AreAll first arrivals rs
+IsToldBy Waits new first arrivals rs r =
+    HasTold new first arrivals rs × AreAll first arrivals rs × (HasTooLong first arrivals rs → ⊥)
 IsToldBy _ new first arrivals rs r = HasTooLong first arrivals rs
 
 -- the same, whatever came and was told before

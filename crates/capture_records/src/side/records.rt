@@ -14,7 +14,8 @@ impl Side {
     ghost use Rattle.capture_records.specs.Follows.{Keeps, Steps};
     ghost use Rattle.capture_records.specs.Private.Leaving.{Leaves, StartsHere};
     ghost use Rattle.capture_records.specs.Private.Steps.{Advances, BeginsAnew, KeepsRest, Passes};
-    ghost use Rattle.capture_records.specs.Sought.{IsSought, IsStrange, PassesNone, WaitsToBeKnown, with_passed};
+    ghost use Rattle.capture_records.specs.Sought.{IsSought, IsStrange, KeepsReader, PassesNone, ReadsOn};
+    ghost use Rattle.capture_records.specs.Sought.{WaitsToBeKnown, with_passed};
     ghost use Rattle.capture_records.specs.declared.side.Next.TheVariants.{First, Here};
     ghost use Rattle.capture_records.specs.declared.step.Step.TheVariants.{Record, Waits};
 
@@ -27,6 +28,7 @@ impl Side {
         ensures synced { StartsHere known self.old → IsSynced self.old.next → result ≡ true }
         ensures waits { WaitsToBeKnown known self.old → (result ≡ false) × KeepsTold self.old self.new }
         ensures leaves { IsSought known self.old → Leaves self.old self.new result }
+        ensures stays { self.old.next ≡ Here → Advances self.old self.new 0 }
     {
         match self.next {
             Next::Here => true,
@@ -83,6 +85,7 @@ impl Side {
     fn pass(&mut self, count: usize)
         ensures passes { Passes self.old self.new count }
         ensures counts { self.new.passed ≡ with_passed self.old count }
+        ensures keeps { KeepsReader self.old self.new }
     {
         self.passed = self.passed.saturating_add(count as u64);
         self.advance(count);
@@ -101,6 +104,7 @@ impl Side {
         ensures steps { IfOk result (λ step. Steps self.old self.new step buffer.new.items) }
         ensures told { IfOk result (λ step. StepsTold self.old self.new step buffer.new.items) }
         ensures passes { IfOk result PassesNone }
+        ensures reads { IfOk result (λ step. ReadsOn self.old self.new step buffer.new.items) }
     {
         let untaken = rest_of(&self.due, self.at);
         let left = untaken.len();

@@ -1,10 +1,11 @@
-use Rattle.std.proofs.Common.{◌≡◌, inl, sym, subst, true, refl, ◌∙◌}
+use Rattle.std.proofs.Common.{◌≡◌, inl, inr, sym, subst, true, refl, ◌∙◌}
 use Rattle.std.proofs.lemmas.Bool.{false≢true}
 use Rattle.std.proofs.lemmas.Result.{IfOk-weaker}
 use Rattle.capture_records.specs.declared.step.Step.{Step}
 use Rattle.capture_records.specs.Exact.{IsSynced, StepsTold}
-use Rattle.capture_records.specs.Sought.{PassesNone}
-use Rattle.capture_records.proofs.Seeking.{both_ok, finds_over, finds_there}
+use Rattle.capture_records.specs.Sought.{IsAtRecord, PassesNone, ReadsOn}
+use Rattle.capture_records.proofs.Records.{reads_from}
+use Rattle.capture_records.proofs.Seeking.{all_ok, finds_over, finds_there}
 use Rattle.capture_records.proofs.Telling.{never_broken, steps_from, steps_never}
 use Rattle.capture_records.proofs.side.Side.next.Goals as goal
 
@@ -43,6 +44,8 @@ returns-then-self-ne0-2-clause-finds c =
     let f = c.finds.ensures in
     finds_over c.args.self.now c.finds.new.self _ c.args.known c.finds.result _ c.if-not-finds.false f.told f.waits
     f.leaves c.if-self-ne0-2.true refl refl (f.here c.if-not-finds.false)
+    (record { reader = refl; broken = refl; missing = refl })
+    (λ a. absurd (c.if-self-ne0-2.true ((f.stays a.here).passed ∙ a.quiet.passed)))
 
 pub returns-clause-finds : goal.returns-clause-finds
 returns-clause-finds c =
@@ -50,7 +53,7 @@ returns-clause-finds c =
     let mid = c.finds.new.self in
     let new = c.record.new.self in
     let r = c.record.new.buffer.items in
-    let both = both_ok (λ (s : Step). StepsTold mid new s r) PassesNone c.record.result c.record.ensures.told
-    c.record.ensures.passes in
+    let all = all_ok (λ (s : Step). StepsTold mid new s r) PassesNone (λ (s : Step). ReadsOn mid new s r)
+    c.record.result c.record.ensures.told c.record.ensures.passes c.record.ensures.reads in
     IfOk-weaker _ _ _ (finds_there c.args.self.now mid new c.args.known c.finds.result r c.if-not-finds.false f.told
-    f.waits f.leaves c.if-self-ne0-2.false) both
+    f.waits f.leaves c.if-self-ne0-2.false f.stays) all

@@ -1,4 +1,5 @@
 use Rattle.capture_records.proofs.Reading.{side_anew, side_more, side_record, steps_other}
+use Rattle.capture_records.proofs.Records.{reads_long, reads_part, reads_whole}
 use Rattle.capture_records.proofs.Telling.{told_long, told_more, told_record}
 use Rattle.std.proofs.Common.{List, ℕ, ap, drop, subst, sym, ◌∙◌}
 use Rattle.capture_records.specs.Exact.{IsSynced}
@@ -51,12 +52,39 @@ returns-in-Ok-More-clause-told c =
     let advanced = c.advance-in-Ok-More.ensures in
     told_more c.args.self.now c.advance-in-Ok-More.new.self c.feed_into.new.self c.rest_of-untaken.result.now _
     arm.field-0 advanced.direction advanced.next advanced.broken advanced.missing advanced.passed advanced.reader
-    c.feed_into.ensures.limit piece arm.field-0-is arm.ensures.fills advanced.untaken
+    c.feed_into.ensures.limit piece arm.field-0-is arm.ensures.fills arm.ensures.reports advanced.untaken
 
 pub returns-in_default-clause-told : goal.returns-in_default-clause-told
 returns-in_default-clause-told c =
     let piece = c.rest_of-untaken.ensures
     ∙ ap (λ (k : List ℕ). drop c.args.self.now.at k) c.deref.ensures.value in
     told_long c.args.self.now c.refuse.new.self c.refuse.result c.rest_of-untaken.result.now _ c.in-Err.fault
+    c.feed_into.new.self c.in_default.not-NoMemory piece c.in-Err.ensures.fills c.in-Err.ensures.reports
+    c.refuse.ensures.other c.refuse.ensures.tells
+
+pub returns-in-Ok-Whole-clause-reads : goal.returns-in-Ok-Whole-clause-reads
+returns-in-Ok-Whole-clause-reads c =
+    let arm = c.in-Ok-Whole in
+    let piece = c.rest_of-untaken.ensures
+    ∙ ap (λ (k : List ℕ). drop c.args.self.now.at k) c.deref.ensures.value in
+    reads_whole c.args.self.now c.begin_anew.new.self arm.used c.rest_of-untaken.result.now _ arm.field-0
+    c.begin_anew.ensures.reading (c.begin_anew.ensures.rest.next ∙ c.advance.ensures.next ∙ c.requires)
+    (c.begin_anew.ensures.anew.untaken ∙ c.advance.ensures.untaken) piece arm.field-0-is arm.ensures.content
+
+pub returns-in-Ok-More-clause-reads : goal.returns-in-Ok-More-clause-reads
+returns-in-Ok-More-clause-reads c =
+    let arm = c.in-Ok-More in
+    let piece = c.rest_of-untaken.ensures
+    ∙ ap (λ (k : List ℕ). drop c.args.self.now.at k) c.deref.ensures.value in
+    let advanced = c.advance-in-Ok-More.ensures in
+    reads_part c.args.self.now c.advance-in-Ok-More.new.self c.feed_into.new.self c.rest_of-untaken.result.now _
+    arm.field-0 (advanced.next ∙ c.requires) advanced.reader c.feed_into.ensures.limit piece arm.field-0-is
+    arm.ensures.fills arm.ensures.reports advanced.untaken
+
+pub returns-in_default-clause-reads : goal.returns-in_default-clause-reads
+returns-in_default-clause-reads c =
+    let piece = c.rest_of-untaken.ensures
+    ∙ ap (λ (k : List ℕ). drop c.args.self.now.at k) c.deref.ensures.value in
+    reads_long c.args.self.now c.refuse.new.self c.refuse.result c.rest_of-untaken.result.now _ c.in-Err.fault
     c.feed_into.new.self c.in_default.not-NoMemory piece c.in-Err.ensures.fills c.in-Err.ensures.reports
     c.refuse.ensures.other c.refuse.ensures.tells
