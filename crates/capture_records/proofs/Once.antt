@@ -1,7 +1,7 @@
 -- Records that segments give.
-use Rattle.std.proofs.Common.{◌≡◌, ℕ, List, ◌++◌, sym, ◌∙◌, subst}
-use Rattle.capture_streams.specs.Segments.{IsRun, given}
-use Rattle.capture_streams.proofs.Given.{handed_is_the_run, one_run}
+use Rattle.std.proofs.Common.{◌≡◌, ℕ, List, sym, ◌∙◌, subst}
+use Rattle.capture_streams.specs.Segments.{given}
+use Rattle.capture_streams.proofs.Given.{one_run}
 use Rattle.rpc_record.specs.Marked.{Longest}
 use Rattle.rpc_record.proofs.Exact.{Longest-same}
 use Rattle.capture_records.specs.declared.finding.TheConstants.{MOST_RECORD}

@@ -5,7 +5,7 @@ use Rattle.rpc_record.specs.declared.fault.RecordFault.TheVariants as fault
 use Rattle.rpc_record.specs.declared.fault.RecordStep.{RecordStep}
 use Rattle.rpc_record.specs.declared.fault.RecordStep.TheVariants as answer
 use Rattle.rpc_record.specs.declared.reader.RecordReader.{RecordReader}
-use Rattle.rpc_record.specs.Reading.{Faulty, HasNoLong, IsWhole, TooLongAt}
+use Rattle.rpc_record.specs.Reading.{Faulty, IsWhole, TooLongAt}
 use Rattle.rpc_record.specs.Represents as record_of
 use Rattle.rpc_record.specs.Represents.{After, Feeds, Fills, IsFilled, Reports, Represents}
 use Rattle.rpc_record.proofs.Readers.{Longest-taking}

@@ -1,9 +1,8 @@
 -- What is told of a direction that is heard from its first byte on.
-use Rattle.std.proofs.Common.{◌≡◌, ℕ, ◌<◌, ◌≤◌, ◌^◌, false, List, [], ◌∷◌, ◌++◌, length, take, drop}
+use Rattle.std.proofs.Common.{◌≡◌, ℕ, ◌<◌, ◌≤◌, ◌^◌, List, [], ◌∷◌, ◌++◌, length, take, drop}
 use Rattle.std.proofs.Common.{Some, None, Ok, Err, refl, sym, ap, ◌∙◌, subst, arith, append_assoc}
 use Rattle.std.proofs.lemmas.List.{append-nil, take-append-drop}
 use Rattle.std.proofs.lemmas.List.Elements.{All-nil, All-push}
-use Rattle.std.specs.List.{flat_map}
 use Rattle.capture_streams.specs.declared.direction.Direction.{Direction}
 use Rattle.capture_streams.specs.Represents.{IsAtHole, IsOfSame, Stands}
 use Rattle.capture_streams.specs.Segments.{Arrival, IsRun, given}
@@ -14,8 +13,8 @@ use Rattle.rpc_record.specs.declared.fault.RecordFault.TheVariants as fault
 use Rattle.rpc_record.specs.declared.fault.RecordStep.{RecordStep}
 use Rattle.rpc_record.specs.declared.fault.RecordStep.TheVariants as answer
 use Rattle.rpc_record.specs.declared.reader.RecordReader.{RecordReader}
-use Rattle.rpc_record.specs.Marked.{Longest, Marked, Stream, fragment, header}
-use Rattle.rpc_record.specs.Reading.{Faulty, HasNoLong, IsFeedFault, IsWhole, TooLongAt, capped}
+use Rattle.rpc_record.specs.Marked.{Longest, Marked, Stream}
+use Rattle.rpc_record.specs.Reading.{Faulty, HasNoLong, IsWhole, TooLongAt}
 use Rattle.rpc_record.specs.Represents as record_of
 use Rattle.rpc_record.specs.Represents.{After, Feeds, Fills, IsFilled, Reports, Represents}
 use Rattle.rpc_record.proofs.Longest.{one_reading}

@@ -80,8 +80,8 @@ impl Side {
     ghost use Rattle.capture_records.specs.Carried.{first_of};
     ghost use Rattle.capture_records.specs.Exact.{HasTold, IsFresh, IsReading, KeepsTold, StepsTold, TakesAll};
     ghost use Rattle.capture_records.specs.Follows.{Comes, ComesFirst, Has, Keeps, Steps, untaken_of};
-    ghost use Rattle.capture_records.specs.Holes.{TellsNotes};
-    ghost use Rattle.capture_records.specs.Private.Steps.{Drops, GivesUp, KeepsNotes};
+    ghost use Rattle.capture_records.specs.Holes.{IsLeft, TellsNotes};
+    ghost use Rattle.capture_records.specs.Private.Steps.{Drops, GivesUp, IsLost, KeepsNotes};
     ghost use Rattle.capture_records.specs.Sought.{NextFinds};
 
     /// Before the first segment.
@@ -225,7 +225,8 @@ impl Side {
         ensures keeps { Keeps self.old self.new }
         ensures reading { IsReading self.new.reader [] }
         ensures notes { KeepsNotes self.old self.new }
-        ensures passed { self.new.passed ≡ 0 }
+        ensures lost { IsLost self.new }
+        ensures left { IsLeft self.old result }
     {
         let left = self.passed.saturating_add(self.untaken().len() as u64);
         let (told, count) = match self.next {
@@ -267,7 +268,7 @@ impl Side {
         // be found it is the first whose front stands in the bytes that wait.
         ensures finds { IfOk result (λ step. NextFinds self.old self.new known step buffer.new.items) }
         // What is to be said of a hole, or of a header that no record has, comes first.
-        ensures notes { IfOk result (λ step. TellsNotes self.old step) }
+        ensures notes { IfOk result (λ step. TellsNotes self.old self.new step) }
     {
         if let Some((told, count)) = self.broken {
             self.broken = None;

@@ -1,6 +1,7 @@
 -- What one step of the code changes of a direction.
 use Rattle.std.specs.Prelude.{◌≡◌, ℕ, [], drop}
 use Rattle.rpc_record.specs.Represents.{Represents}
+use Rattle.capture_records.specs.declared.side.Next.TheVariants.{Lost}
 use Rattle.capture_records.specs.declared.side.Side.{Side}
 use Rattle.capture_records.specs.Follows.{untaken_of}
 
@@ -11,6 +12,7 @@ pub record Drops (old new : Side) : Type 0 where
   pub next : new.next ≡ old.next
   pub at : new.at ≡ 0
   pub due : new.due.items ≡ untaken_of old
+  pub begun : new.begun ≡ old.begun
   pub broken : new.broken ≡ old.broken
   pub missing : new.missing ≡ old.missing
   pub passed : new.passed ≡ old.passed
@@ -56,3 +58,8 @@ pub record KeepsRest (old new : Side) : Type 0 where
 pub record KeepsNotes (old new : Side) : Type 0 where
   pub broken : new.broken ≡ old.broken
   pub missing : new.missing ≡ old.missing
+
+-- the next record has to be found, and no byte was passed over
+pub record IsLost (side : Side) : Type 0 where
+  pub next : side.next ≡ Lost
+  pub passed : side.passed ≡ 0

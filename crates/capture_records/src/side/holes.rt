@@ -6,6 +6,7 @@ impl Side {
     ghost use Rattle.std.specs.Prelude.{◌≡◌, OnOk, IfOk, true, false};
     ghost use Rattle.capture_records.specs.Follows.{Keeps};
     ghost use Rattle.capture_records.specs.Holes.{GoesBehind, HoldsNone};
+    ghost use Rattle.capture_records.specs.Private.Steps.{KeepsRest};
 
     /// Goes on behind the first hole. False: nothing is held there.
     #[tactic(auto, using(crate::proofs::Reading::drops_keeps, crate::proofs::Reading::keeps_join))]
@@ -48,7 +49,7 @@ impl Side {
     fn hand_on(&mut self) -> Result<(), AllocError>
         requires { self.old.at ≡ 0 }
         ensures keeps { OnOk result (Keeps self.old self.new) }
-        ensures missing { OnOk result (self.new.missing ≡ self.old.missing) }
+        ensures rest { OnOk result (KeepsRest self.old self.new) }
     {
         match &mut self.direction {
             Some(direction) => {

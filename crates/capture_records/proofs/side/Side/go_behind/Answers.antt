@@ -9,4 +9,4 @@ returns-then-not-skip_hole-clause-none c = λ went.
 pub returns-clause-behind : goal.returns-clause-behind
 returns-clause-behind c = λ went.
     behind_after c.args.self.now c.drop_taken.new.self c.skip_hole.new.self _ c.in_ok-drop_taken.ensures
-    c.in_ok-hand_on.ensures.missing (c.skip_hole.ensures.behind c.if-not-skip_hole.false)
+    c.in_ok-hand_on.ensures.rest (c.skip_hole.ensures.behind c.if-not-skip_hole.false)

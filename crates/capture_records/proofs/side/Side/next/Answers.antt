@@ -1,10 +1,9 @@
-use Rattle.std.proofs.Common.{◌≡◌, inl, inr, sym, subst, true, refl, ◌∙◌}
+use Rattle.std.proofs.Common.{◌≡◌, inl, sym, subst, true, refl, ◌∙◌}
 use Rattle.std.proofs.lemmas.Bool.{false≢true}
 use Rattle.std.proofs.lemmas.Result.{IfOk-weaker}
 use Rattle.capture_records.specs.declared.step.Step.{Step}
 use Rattle.capture_records.specs.Exact.{IsSynced, StepsTold}
-use Rattle.capture_records.specs.Sought.{IsAtRecord, PassesNone, ReadsOn}
-use Rattle.capture_records.proofs.Records.{reads_from}
+use Rattle.capture_records.specs.Sought.{PassesNone, ReadsOn}
 use Rattle.capture_records.proofs.Seeking.{all_ok, finds_over, finds_there}
 use Rattle.capture_records.proofs.Telling.{never_broken, steps_from, steps_never}
 use Rattle.capture_records.proofs.side.Side.next.Goals as goal

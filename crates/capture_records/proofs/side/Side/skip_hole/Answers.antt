@@ -1,6 +1,6 @@
 use Rattle.capture_records.proofs.Reading.{side_next, side_same, side_skipped}
-use Rattle.capture_records.proofs.Holes.{goes_behind, none_held}
-use Rattle.std.proofs.Common.{ℕ, Some, ap, arith, refl, subst, sym, ◌∙◌}
+use Rattle.capture_records.proofs.Holes.{goes_behind, none_held, tells_hole, tells_none}
+use Rattle.std.proofs.Common.{ℕ, Some, ap, refl, subst, sym, ◌∙◌}
 use Rattle.capture_streams.specs.Taking.{Skips}
 use Rattle.capture_records.proofs.side.Side.skip_hole.Goals as goal
 
@@ -32,9 +32,12 @@ returns-in-Some-eq0-clause-behind c = λ went.
     let new = c.skip_hole.new.self in
     goes_behind c.args.self.now _ d new 0 c.in-Some.is
     (subst (λ (k : ℕ). Skips d new (Some k)) c.in-Some-eq0.field-0-test c.in-Some-eq0.ensures.skips)
-    (λ some. absurd (omega (arith, some)))
+    (tells_none c.args.self.now _ refl refl refl)
 
 pub returns-in-Some-skip_hole-clause-behind : goal.returns-in-Some-skip_hole-clause-behind
 returns-in-Some-skip_hole-clause-behind c = λ went.
+    let given = c.give_up-self.ensures in
     goes_behind c.args.self.now _ c.in-Some.direction c.skip_hole.new.self c.in-Some-skip_hole.missing c.in-Some.is
-    c.in-Some-skip_hole.ensures.skips (λ some. c.give_up-self.ensures.notes.missing)
+    c.in-Some-skip_hole.ensures.skips
+    (tells_hole c.args.self.now _ c.in-Some-skip_hole.missing c.in-Some-skip_hole.missing-test.1 given.notes.missing
+    (record { begun = given.left.begun; passed = given.left.passed }) given.lost.next)
