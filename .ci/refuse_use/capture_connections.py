@@ -215,6 +215,20 @@ HOLES = [
         at(2, TO + null_line(0)) + at(3, TO + b"unfinished 30 bytes\n") + at(3, TO + b"missing 14 bytes\n") + CALLS,
     ),
     (
+        "the same of a reply, whose call came whole",
+        "",
+        [SYN, SYN_ACK, of_client(100, null(0)), of_server(500, void(0)[:20]), of_server(528, b"")],
+        0,
+        at(3, TO + null_line(0)) + at(5, FROM + b"unfinished 20 bytes\n") + at(5, FROM + b"missing 8 bytes\n") + CALLS,
+    ),
+    (
+        "a record that came in two segments, and behind it one that does not end",
+        "",
+        [SYN, of_client(100, null(0)[:20]), of_client(120, null(0)[20:] + null(1)[:30])],
+        0,
+        at(3, TO + null_line(0)) + at(3, TO + b"unfinished 30 bytes\n") + CALLS,
+    ),
+    (
         "a reset, whose number says nothing",
         "",
         [SYN, of_client(100, null(0)), of_client(5000, b"", RST_BIT)],
