@@ -23,7 +23,7 @@ pub record IsPiece (s : SegmentView) (a : Arrival) : Type 0 where
   pub bytes : a.segment.bytes ≡ take count (drop before (bytes_of s))
 
 -- The record, with its marks, stands in the bytes that arrived: one byte after another from a place on, with no hole
--- between them (RFC 5531 section 11).
+-- between them, where places are counted from some first number (RFC 5531 section 11).
 pub record Carries (arrivals : List Arrival) (r : List ℕ) : Type 0 where
   pub first : ℕ
   pub place : ℕ

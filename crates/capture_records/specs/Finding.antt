@@ -36,7 +36,8 @@ pub record SaysReply (bytes : List ℕ) : Type 0 where
 abbrev pub IsHeader : (last : Bool) → (size : ℕ) → List ℕ → Type 0
 IsHeader last size bytes = word_at 0 bytes ≡ (if last then 2 ^ 31 + size else size)
 
--- The bytes begin with the header of a fragment and the front of a message that it may have (RFC 5531 section 11).
+-- The bytes begin with the header of a fragment, and the first three numbers of a message stand in that fragment (RFC
+-- 5531 sections 9 and 11).
 pub record IsFragmentFront (bytes : List ℕ) : Type 0 where
   pub long : 20 ≤ length bytes
   pub last : Bool
@@ -54,7 +55,7 @@ pub record MayHave (size : ℕ) (bytes : List ℕ) : Type 0 where
   pub denied : IsDenied bytes → 20 ≤ size
 
 -- The bytes begin with the header of a record's last fragment, and the front of a message that it may have: in whole
--- words, and of a size that such a message can have (RFC 5531 sections 9 and 11).
+-- words, and of a size that such a message can have (RFC 5531 sections 9 and 11, RFC 4506 section 3).
 pub record IsRecordFront (bytes : List ℕ) : Type 0 where
   pub long : 20 ≤ length bytes
   pub words : ℕ

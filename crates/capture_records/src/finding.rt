@@ -3,7 +3,7 @@ ghost use Rattle.std.specs.Prelude.{◌≡◌, ◌+◌, ◌↔◌, ◌<◌, ◌�
 ghost use Rattle.capture_records.specs.Finding.{HasNoRecord, IsAccepted, IsCall, IsDenied, IsFirstRecord};
 ghost use Rattle.capture_records.specs.Finding.{IsFragmentFront, IsMessageFront, IsRecordFront, SaysReply, word_at};
 
-/// How many bytes are looked at: a header, and four numbers (RFC 5531 sections 9 and 11).
+/// How many bytes have to be there: a header, and four numbers (RFC 5531 sections 9 and 11).
 pub const LOOKED: usize = 20;
 
 /// The most bytes of a message: a head, and 16777216 bytes of arguments or results.

@@ -13,7 +13,7 @@ impl Side {
     pub fn go_behind(&mut self) -> Result<bool, AllocError>
         ensures keeps { OnOk result (Keeps self.old self.new) }
         ensures none { IfOk result (λ went. went ≡ false → HoldsNone self.old) }
-        // The bytes of the hole are told as missing.
+        // The count of the hole's bytes is kept, to be told as missing.
         ensures behind { IfOk result (λ went. went ≡ true → GoesBehind self.old self.new) }
     {
         self.drop_taken()?;
