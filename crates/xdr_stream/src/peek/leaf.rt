@@ -31,7 +31,10 @@ pub(crate) fn leaf_of(schema: &Schema, id: KindId, kind: &Kind, number: u32) -> 
                 None
             }
         }
-        _ => None,
+        Kind::Hyper | Kind::UnsignedHyper => None,
+        Kind::Opaque { .. } | Kind::OpaqueUpTo { .. } | Kind::Text { .. } => None,
+        Kind::Fixed { .. } | Kind::UpTo { .. } | Kind::Structure { .. } => None,
+        Kind::Choice { .. } | Kind::Maybe { .. } | Kind::Nothing => None,
     }
 }
 

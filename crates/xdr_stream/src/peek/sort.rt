@@ -41,7 +41,10 @@ pub(crate) fn is_short(schema: &Schema, id: KindId, levels: u32) -> bool
             Some(most) => most <= MOST_SHORT_LEVELS && most <= levels,
             None => false,
         },
-        _ => false,
+        Kind::Int | Kind::Unsigned | Kind::Hyper | Kind::UnsignedHyper => false,
+        Kind::Bool | Kind::Numbered { .. } => false,
+        Kind::Opaque { .. } | Kind::OpaqueUpTo { .. } | Kind::Text { .. } => false,
+        Kind::Fixed { .. } | Kind::UpTo { .. } | Kind::Structure { .. } | Kind::Nothing => false,
     }
 }
 
@@ -54,7 +57,8 @@ pub(crate) fn is_flat_part(schema: &Schema, id: KindId) -> bool
         Kind::Int | Kind::Unsigned | Kind::Hyper | Kind::UnsignedHyper => true,
         Kind::Bool | Kind::Numbered { .. } => true,
         Kind::Opaque { .. } | Kind::OpaqueUpTo { .. } | Kind::Text { .. } => true,
-        _ => is_short(schema, id, MOST_SHORT_LEVELS),
+        Kind::Choice { .. } | Kind::Maybe { .. } => is_short(schema, id, MOST_SHORT_LEVELS),
+        Kind::Fixed { .. } | Kind::UpTo { .. } | Kind::Structure { .. } | Kind::Nothing => false,
     }
 }
 
@@ -94,7 +98,10 @@ pub(crate) fn sort_of<B: Build>(
                 Sort::Bare
             }
         }
-        _ if is_flat_part(schema, id) => Sort::Flat,
-        _ => Sort::Nested,
+        Kind::Bool | Kind::Numbered { .. } => Sort::Flat,
+        Kind::Opaque { .. } | Kind::OpaqueUpTo { .. } | Kind::Text { .. } => Sort::Flat,
+        Kind::Choice { .. } | Kind::Maybe { .. } if is_flat_part(schema, id) => Sort::Flat,
+        Kind::Choice { .. } | Kind::Maybe { .. } => Sort::Nested,
+        Kind::UpTo { .. } | Kind::Nothing => Sort::Nested,
     }
 }
