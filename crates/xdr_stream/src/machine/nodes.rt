@@ -13,7 +13,7 @@ ghost use Rattle.xdr_stream.specs.Sees.{Sees, IsReady};
 ghost use Rattle.xdr_stream.specs.Private.Moves.{Follows, EndsAs, GoesDeep, TakesUnit, RefusesUnit, reason_of};
 ghost use Rattle.xdr_stream.specs.Private.Moves.{SparesSeen};
 ghost use Rattle.xdr_stream.specs.Private.Live.{IsLive};
-ghost use Rattle.xdr_stream.specs.Private.Sound.{IsSound, AreAllSolid, HasNext, Starts, IsAwaited};
+ghost use Rattle.xdr_stream.specs.Private.Sound.{IsSound, AreAllSolid, HasNext, Starts, IsAwaited, ComesByUnit};
 ghost use Rattle.xdr_stream.specs.declared.fault.Reason.TheVariants.{NoMemory};
 ghost use Rattle.xdr_stream.specs.declared.machine.Awaits.TheVariants.{Next};
 
@@ -214,10 +214,7 @@ pub(crate) fn take_number_of_kind<'s, B: Build>(
     built: &mut B,
     number: u32,
 ) -> Result<Awaits, Reason>
-    requires sound { IsSound schema.now.kinds (stack_of work.old parents.old.items) }
-    requires first { Begins (left_of work.old) coming.id.place }
-    requires kind { kind_view coming.kind.now ≡ kind_at schema.now.kinds coming.id.place }
-    requires unit { HasUnit (lead_of (kind_view coming.kind.now)) }
+    requires { ComesByUnit schema.now.kinds work.old parents.old.items coming }
     ensures live { IfOk result IsLive }
     ensures taken { IfOk result (λ a. TakesUnit schema.now.kinds (B.reports built.old) Next
         (stack_of work.old parents.old.items) (B.reports built.new) a (stack_of work.new parents.new.items)
