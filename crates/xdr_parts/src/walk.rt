@@ -9,7 +9,8 @@ ghost use Rattle.xdr_units.specs.Numbers.{num4, gap};
 ghost use Rattle.xdr_laws.specs.Owed.{lead_of, HasUnit};
 ghost use Rattle.xdr_stream.specs.Frames.{left_of, rest_of, stack_of, onto};
 ghost use Rattle.xdr_parts.specs.Lent.{size_in, role_in};
-ghost use Rattle.xdr_parts.specs.Private.Walking.{part_of, Aim, HasWalked, Wrote, IsNext, IsFree, IsGroup, IsSpelled};
+ghost use Rattle.xdr_parts.specs.Private.Walking.{part_of, Aim, HasWalked, Wrote, IsNext, IsFreePart, IsGroup};
+ghost use Rattle.xdr_parts.specs.Private.Walking.{IsSpelled};
 
 use crate::next::{Next, first};
 use crate::part::{Role, number_size, part_at, unit_role, whole_units};
@@ -173,11 +174,7 @@ impl<'a> Walk<'a> {
         size: u32,
         rest: Frame<'a>,
     ) -> Result<(), AllocError>
-        requires walked { (all : Aim) × HasWalked self.old all }
-        requires next { IsNext self.old next }
-        requires rest { left_of rest ≡ rest_of (left_of self.old.work) }
-        requires kind { kind_view kind.now ≡ kind_at self.old.schema.now.kinds next.kind.place }
-        requires free { IsFree (kind_view kind.now) role size }
+        requires { IsFreePart self.old next (kind_view kind.now) role size rest }
         ensures walked { OnOk result ((all : Aim) → HasWalked self.old all → HasWalked self.new all) }
         ensures more { OnOk result (self.old.taken.parts < self.new.taken.parts) }
         ensures bytes { OnOk result (self.new.bytes.now ≡ self.old.bytes.now) }
