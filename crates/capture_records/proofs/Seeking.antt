@@ -12,7 +12,8 @@ use Rattle.capture_records.specs.Finding.{IsFirstRecord}
 use Rattle.capture_records.specs.Follows.{untaken_of}
 use Rattle.capture_records.specs.Private.Leaving.{Leaves, LeavesFirst, StartsHere}
 use Rattle.capture_records.specs.Private.Steps.{Advances}
-use Rattle.capture_records.specs.Sought.{IsAtRecord, IsSought, KeepsReader, NextFinds, PassesNone, ReadsOn, WaitsToBeKnown}
+use Rattle.capture_records.specs.Sought.{IsAtRecord, IsSought, KeepsReader, NextFinds, PassesNone, ReadsOn}
+use Rattle.capture_records.specs.Sought.{WaitsToBeKnown}
 use Rattle.capture_records.proofs.Records.{reads_from}
 use Rattle.capture_records.proofs.Telling.{steps_from, steps_never}
 

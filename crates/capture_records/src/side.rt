@@ -264,8 +264,8 @@ impl Side {
         // Of one that is heard from its first byte on, and known to be RPC: each record is told once, in its order.
         // Where nothing comes for now, all are that are whole up to the first hole.
         ensures told { IfOk result (λ step. known ≡ true → StepsTold self.old self.new step buffer.new.items) }
-        // Where a record has begun it is read from there on, and told so before that is known. Where the next one has to
-        // be found it is the first whose front stands in the bytes that wait.
+        // Where a record has begun it is read from there on, and told so before that is known. Where the next one has
+        // to be found it is the first whose front stands in the bytes that wait.
         ensures finds { IfOk result (λ step. NextFinds self.old self.new known step buffer.new.items) }
         // What is to be said of a hole, or of a header that no record has, comes first.
         ensures notes { IfOk result (λ step. TellsNotes self.old self.new step) }

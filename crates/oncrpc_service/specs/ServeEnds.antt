@@ -50,6 +50,20 @@ pub record ServeEnds {L W O F : Type 0} (count : ℕ) (post : Post L W O) (rows 
 
 -- ---- steps between the code and what its public contract says
 
+-- what each of them tells, by its own words
+abbrev pub post_of : {L W O : Type 0} → (port : L → ℕ) → (waiting sent : L → Option (List (List ℕ)))
+    → (refused : L → Option ℕ) → (went : W → Option (List ℕ)) → (taken : O → Option (List ℕ)) → (lost : O → Option ℕ)
+    → Post L W O
+post_of port waiting sent refused went taken lost = record {
+  port = port;
+  waiting = waiting;
+  sent = sent;
+  refused = refused;
+  went = went;
+  taken = taken;
+  lost = lost;
+}
+
 -- why serving stopped under these lines
 abbrev pub StopsUnder : (text : List ℕ) → (fewer : Type 0) → (refused refused' : Option ℕ)
     → (taken taken' : Option (List ℕ)) → (lost lost' : Option ℕ) → Stop → Type 0

@@ -5,6 +5,7 @@ ghost use Rattle.xdr_io.specs.Reported.{Counts};
 ghost use Rattle.oncrpc_service.specs.Connections.{ServesNext, connection_line, listening_line, record_line};
 ghost use Rattle.oncrpc_service.specs.Listening.{clients_of};
 ghost use Rattle.oncrpc_service.specs.ServeEnds.{HasServed, HasServedOne, HasStopped, LinePrints, ServeEnds, StopsOne};
+ghost use Rattle.oncrpc_service.specs.ServeEnds.{post_of};
 
 use crate::listener::Listener;
 use crate::printing::print_line;
@@ -70,26 +71,10 @@ fn serve_all<L: Listener, S: BuildHasher, O: Sink>(
     output: &mut O,
 ) -> Result<(), Stop>
     ensures served { OnOk result (HasServed count
-        (record {
-          port = L.port_of;
-          waiting = L.waiting;
-          sent = L.sent;
-          refused = L.failures;
-          went = L.Writer.taken;
-          taken = O.taken;
-          lost = O.failures;
-        })
+        (post_of L.port_of L.waiting L.sent L.failures L.Writer.taken O.taken O.failures)
         directory.old directory.new listener.old listener.new output.old output.new) }
     ensures stopped { IfErr result (λ why. HasStopped count
-        (record {
-          port = L.port_of;
-          waiting = L.waiting;
-          sent = L.sent;
-          refused = L.failures;
-          went = L.Writer.taken;
-          taken = O.taken;
-          lost = O.failures;
-        })
+        (post_of L.port_of L.waiting L.sent L.failures L.Writer.taken O.taken O.failures)
         directory.old directory.new listener.old listener.new output.old output.new why) }
 {
     match print(output, listening_line(alloc, listener.port())) {
@@ -114,26 +99,10 @@ fn serve_one<L: Listener, S: BuildHasher, O: Sink>(
     output: &mut O,
 ) -> Result<(), Stop>
     ensures served { OnOk result (HasServedOne number
-        (record {
-          port = L.port_of;
-          waiting = L.waiting;
-          sent = L.sent;
-          refused = L.failures;
-          went = L.Writer.taken;
-          taken = O.taken;
-          lost = O.failures;
-        })
+        (post_of L.port_of L.waiting L.sent L.failures L.Writer.taken O.taken O.failures)
         directory.old directory.new listener.old listener.new output.old output.new) }
     ensures stopped { IfErr result (λ why. StopsOne number
-        (record {
-          port = L.port_of;
-          waiting = L.waiting;
-          sent = L.sent;
-          refused = L.failures;
-          went = L.Writer.taken;
-          taken = O.taken;
-          lost = O.failures;
-        })
+        (post_of L.port_of L.waiting L.sent L.failures L.Writer.taken O.taken O.failures)
         directory.old directory.new listener.old listener.new output.old output.new why) }
 {
     match serve_next(alloc, listener, directory) {

@@ -1,10 +1,10 @@
 //! A part of a value, lent from the bytes that spell it.
-ghost use Rattle.std.specs.Prelude.{◌≡◌, ◌+◌, ◌≤◌, length, IfSome};
+ghost use Rattle.std.specs.Prelude.{◌≡◌, ◌+◌, ◌≤◌, pos, length, take, drop, IfSome};
 ghost use Rattle.xdr_types.specs.Layout.{entry};
 ghost use Rattle.xdr_laws.specs.Owed.{lead_of, HasUnit, role_of};
 ghost use Rattle.xdr_types.specs.KindViews.{kind_view};
 ghost use Rattle.xdr_parts.specs.Lent.{entry_of, size_in, role_in, IsLentFrom};
-ghost use Rattle.xdr_units.specs.Numbers.{gap};
+ghost use Rattle.xdr_units.specs.Numbers.{num4, gap};
 ghost use Rattle.xdr_parts.specs.declared.part.Role.TheVariants.{Number};
 ghost use Rattle.xdr_parts.specs.Private.Walking.{part_of, IsFree};
 
@@ -101,4 +101,12 @@ pub fn whole_units(size: u32) -> usize
 {
     let size = size as usize;
     size + (4 - size % 4) % 4
+}
+
+/// The number in the unit at a place (RFC 4506 section 4.2).
+pub fn unit_at(bytes: &[u8], at: usize) -> u32
+    requires { at + 4 ≤ length bytes.now }
+    ensures { num4 (pos result) ≡ take 4 (drop at bytes.now) }
+{
+    u32::from_be_bytes([bytes[at], bytes[at + 1], bytes[at + 2], bytes[at + 3]])
 }

@@ -1,18 +1,19 @@
 //! The parts of a value whose bytes are known to spell one.
-ghost use Rattle.std.specs.Prelude.{◌≡◌, ◌+◌, ◌≤◌, ◌<◌, ◌^◌, pos, [], ◌∷◌, length, take, drop};
+ghost use Rattle.std.specs.Prelude.{◌≡◌, ◌+◌, ◌≤◌, ◌<◌, ◌^◌, [], ◌∷◌, length};
 ghost use Rattle.std.specs.Prelude.{OnOk, MatchOption};
 ghost use Rattle.xdr_types.specs.Kinds.{kind_at};
 ghost use Rattle.xdr_types.specs.KindViews.{kind_view};
 ghost use Rattle.xdr_types.specs.Tree.{Tree};
 ghost use Rattle.xdr_types.specs.Layout.{content, entry, entries, of_length};
-ghost use Rattle.xdr_units.specs.Numbers.{num4, gap};
+ghost use Rattle.xdr_units.specs.Numbers.{gap};
 ghost use Rattle.xdr_laws.specs.Owed.{lead_of, HasUnit};
 ghost use Rattle.xdr_stream.specs.Frames.{left_of, rest_of, stack_of, onto};
 ghost use Rattle.xdr_parts.specs.Lent.{size_in, role_in};
-ghost use Rattle.xdr_parts.specs.Private.Walking.{part_of, Aim, HasWalked, Wrote, IsNext, IsFree, IsGroup, IsSpelled};
+ghost use Rattle.xdr_parts.specs.Private.Walking.{part_of, Aim, HasWalked, Wrote, IsNext, IsFreePart, IsGroup};
+ghost use Rattle.xdr_parts.specs.Private.Walking.{IsSpelled};
 
 use crate::next::{Next, first};
-use crate::part::{Role, number_size, part_at, unit_role, whole_units};
+use crate::part::{Role, number_size, part_at, unit_at, unit_role, whole_units};
 use crate::taken::Taken;
 use std::alloc::{AllocError, Global};
 use xdr_stream::machine::frame::{Frame, after};
@@ -34,13 +35,6 @@ pub struct Walk<'a> {
     pub parents: Vec<Frame<'a>>,
     /// The parts so far.
     pub taken: Taken<'a>,
-}
-
-fn unit_at(bytes: &[u8], at: usize) -> u32
-    requires { at + 4 ≤ length bytes.now }
-    ensures { num4 (pos result) ≡ take 4 (drop at bytes.now) }
-{
-    u32::from_be_bytes([bytes[at], bytes[at + 1], bytes[at + 2], bytes[at + 3]])
 }
 
 impl<'a> Walk<'a> {
@@ -173,11 +167,7 @@ impl<'a> Walk<'a> {
         size: u32,
         rest: Frame<'a>,
     ) -> Result<(), AllocError>
-        requires walked { (all : Aim) × HasWalked self.old all }
-        requires next { IsNext self.old next }
-        requires rest { left_of rest ≡ rest_of (left_of self.old.work) }
-        requires kind { kind_view kind.now ≡ kind_at self.old.schema.now.kinds next.kind.place }
-        requires free { IsFree (kind_view kind.now) role size }
+        requires { IsFreePart self.old next (kind_view kind.now) role size rest }
         ensures walked { OnOk result ((all : Aim) → HasWalked self.old all → HasWalked self.new all) }
         ensures more { OnOk result (self.old.taken.parts < self.new.taken.parts) }
         ensures bytes { OnOk result (self.new.bytes.now ≡ self.old.bytes.now) }

@@ -8,9 +8,8 @@ ghost use Rattle.xdr_paths.specs.Private.Standing.{StandsAs};
 
 use crate::look::Look;
 use crate::own::Form;
-use crate::unit::unit_at;
 use xdr_parts::judge::judge;
-use xdr_parts::part::whole_units;
+use xdr_parts::part::{unit_at, whole_units};
 use xdr_types::{Kind, KindId, NoMemory, part_in};
 
 impl<'a> Look<'a> {

@@ -9,7 +9,7 @@ ghost use Rattle.xdr_paths.specs.Private.Standing.{Spells, StandsAt, Finds, IsCh
 
 use crate::look::Look;
 use crate::spot::Spot;
-use crate::unit::unit_at;
+use xdr_parts::part::unit_at;
 use xdr_types::{Kind, KindId, Member, NoMemory, part_in};
 
 // Whether a field or an arm has this name.

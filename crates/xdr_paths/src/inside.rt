@@ -9,7 +9,7 @@ ghost use Rattle.xdr_paths.specs.Private.Steps.{step_of};
 use crate::look::Look;
 use crate::spot::Spot;
 use crate::steps::Step;
-use crate::unit::unit_at;
+use xdr_parts::part::unit_at;
 use xdr_types::{Kind, KindId, NoMemory};
 
 // The kind of an optional's item; none of another kind.

@@ -3,7 +3,7 @@
 //! - `finding`: the part that a path names. `steps`: the steps of a path, read from its text. `walk`: the part that
 //!   they lead to.
 //! - `look`: the bytes of a value that were judged before. `spot`: where a node stands in them. `ends`: where it ends.
-//! - `inside`, `fields`, `items`: the node that a step leads to. `own`: the part that stands for it. `unit`: a unit.
+//! - `inside`, `fields`, `items`: the node that a step leads to. `own`: the part that stands for it.
 //! - `number`: the number that a part has.
 #![tactic(auto)]
 
@@ -17,7 +17,6 @@ mod number;
 mod own;
 mod spot;
 mod steps;
-mod unit;
 mod walk;
 
 pub use finding::{FindFault, find};

@@ -9,7 +9,7 @@ ghost use Rattle.xdr_paths.specs.Private.Own.{IsForm, part_at};
 
 use crate::look::Look;
 use crate::spot::Spot;
-use crate::unit::unit_at;
+use xdr_parts::part::unit_at;
 use xdr_parts::{Lent, Role};
 use xdr_types::Kind;
 

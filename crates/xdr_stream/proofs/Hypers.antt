@@ -18,7 +18,7 @@ use Rattle.xdr_stream.specs.Frames.{left_of, onto, stack_of}
 use Rattle.xdr_stream.specs.Trace.{Trace}
 use Rattle.xdr_stream.specs.Private.Reported.{leaf_in, HasSpace, TakesMany}
 use Rattle.xdr_stream.specs.Sees.{Sees, make_wide}
-use Rattle.xdr_stream.specs.Private.Runs.{hyper_kind, hypers_in}
+use Rattle.xdr_stream.specs.Private.NumbersReported.{hyper_kind, hypers_in}
 use Rattle.xdr_stream.specs.Steps.{IsStep}
 use Rattle.xdr_stream.specs.Private.Sound.{IsSound}
 use Rattle.xdr_stream.specs.declared.machine.frame.Frame.{Frame}

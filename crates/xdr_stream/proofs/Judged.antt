@@ -17,9 +17,9 @@ use Rattle.xdr_laws.proofs.Legal.{and, both, is_legal_of, bytes_are}
 use Rattle.xdr_laws.proofs.UnitOwed.{head_legal}
 use Rattle.xdr_stream.specs.Private.Moves.{are_zeros}
 use Rattle.xdr_stream.specs.Private.Leaf.{IsTaken}
-use Rattle.xdr_stream.specs.Private.Entire.{IsOneLeaf, IsPadded}
+use Rattle.xdr_stream.specs.Private.Complete.{IsOneLeaf, IsPadded}
 use Rattle.xdr_stream.specs.Private.Reported.{leaf_tree}
-use Rattle.xdr_stream.specs.Private.Runs.{hyper_kind}
+use Rattle.xdr_stream.specs.Private.NumbersReported.{hyper_kind}
 use Rattle.xdr_stream.specs.Nodes.{head_of_leaf}
 use Rattle.xdr_stream.specs.Sees.{make_wide}
 use Rattle.xdr_stream.specs.declared.builder.Leaf.{Leaf}

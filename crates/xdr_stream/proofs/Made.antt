@@ -29,12 +29,12 @@ use Rattle.xdr_stream.specs.Nodes.{head_of_leaf, head_of_node}
 use Rattle.xdr_stream.specs.Taking.{Takes}
 use Rattle.xdr_stream.specs.Trace.{IsOpen}
 use Rattle.xdr_stream.specs.Private.Reported.{leaf_tree}
-use Rattle.xdr_stream.specs.Private.Entire.{IsOneLeaf}
+use Rattle.xdr_stream.specs.Private.Complete.{IsOneLeaf}
 use Rattle.xdr_stream.specs.Private.Made.{Adds, between, Took, IsMade, AreMade, IsNode, IsOnly, IsContent, IsBare}
 use Rattle.xdr_stream.specs.Private.Made.{IsHanded}
-use Rattle.xdr_stream.specs.Private.Whole.{IsWhole}
-use Rattle.xdr_stream.specs.declared.runs.content.Whole.{Whole}
-use Rattle.xdr_stream.specs.Private.Made.{Counts, bare_tree}
+use Rattle.xdr_stream.specs.Private.Counted.{IsCountedContent}
+use Rattle.xdr_stream.specs.declared.peek.content.Counted.{Counted}
+use Rattle.xdr_stream.specs.Private.Made.{CountsParts, bare_tree}
 use Rattle.xdr_stream.specs.declared.builder.Leaf.{Leaf}
 use Rattle.xdr_stream.specs.declared.builder.Node.{Node}
 use Rattle.xdr_stream.specs.declared.builder.tally.Tally.{Tally}
@@ -244,7 +244,7 @@ optional_one : (o : Option Part) → is_some o ≡ true → length (optional_par
 optional_one (Some p) e = refl
 optional_one None e = absurd (false≢true e)
 
-pub counts_parts : (s : List KindView) (k : KindView) (h : Head) → IsOpen h → IsLegal s k h → Counts h (parts k h)
+pub counts_parts : (s : List KindView) (k : KindView) (h : Head) → IsOpen h → IsLegal s k h → CountsParts h (parts k h)
 counts_parts s (xdr.fixed item size) (value.items n) o l = length-replicate n (item_part item)
 counts_parts s (xdr.up_to item max) (value.items n) o l = length-replicate n (item_part item)
 counts_parts s (xdr.structure ps) value.fields o l = tt
@@ -444,8 +444,8 @@ made_one s place k x l bytes a m c v is taken took nodes content form adds same 
     (omega (arith, took.ordered, same)) (omega (arith, took.within, same)) nodes content adds
 
 -- content behind its length
-pub made_handed : (s : List KindView) (place : ℕ) (w : Whole) (bytes : List ℕ) (a c : Tally) (v : Value)
-    → a.at ≤ length bytes → IsWhole s place (take (length bytes - a.at) (drop a.at bytes)) w
+pub made_handed : (s : List KindView) (place : ℕ) (w : Counted) (bytes : List ℕ) (a c : Tally) (v : Value)
+    → a.at ≤ length bytes → IsCountedContent s place (take (length bytes - a.at) (drop a.at bytes)) w
     → IsHanded w bytes a c v → IsMade s place bytes a c v
 made_handed s place w bytes a c v within r h =
     whole s place bytes a c v (leaf_tree (value.bytes r.content)) form r.fits (record {
@@ -453,7 +453,7 @@ made_handed s place w bytes a c v within r h =
       within = omega (
         arith,
         h.moved,
-        r.there,
+        r.here,
         length-take (length bytes - a.at) (drop a.at bytes),
         length-drop a.at bytes,
         within,

@@ -9,12 +9,12 @@ use Rattle.xdr_laws.specs.Held.{count_nodes, count_bytes}
 use Rattle.xdr_stream.specs.Frames.{rest_of}
 use Rattle.xdr_stream.specs.Nodes.{head_of_leaf}
 use Rattle.xdr_stream.specs.Private.Reported.{leaf_tree}
-use Rattle.xdr_stream.specs.Private.Entire.{IsOneLeaf}
+use Rattle.xdr_stream.specs.Private.Complete.{IsOneLeaf}
 use Rattle.xdr_stream.specs.Private.Made.{Adds, between, AreMade, IsMade}
 use Rattle.xdr_stream.specs.Private.Numbers.{AreNumbers, IsNumber, kind_of, width_of}
 use Rattle.xdr_stream.specs.declared.builder.Leaf.{Leaf}
-use Rattle.xdr_stream.specs.declared.builder.taken.Number.{Number}
-use Rattle.xdr_stream.specs.declared.builder.taken.Number.TheVariants.{Int, Unsigned, Hyper, UnsignedHyper}
+use Rattle.xdr_stream.specs.declared.builder.bulk.Number.{Number}
+use Rattle.xdr_stream.specs.declared.builder.bulk.Number.TheVariants.{Int, Unsigned, Hyper, UnsignedHyper}
 use Rattle.xdr_stream.specs.declared.builder.tally.Tally.{Tally}
 use Rattle.xdr_stream.proofs.Frames.{begins_items}
 use Rattle.xdr_stream.proofs.Made.{AreMadeOf, took_none, made_more, made_all, made_leaf}

@@ -10,12 +10,12 @@ use Rattle.xdr_types.specs.declared.value.Value.{Value}
 use Rattle.xdr_laws.specs.Held.{count_nodes, count_bytes, node_count, byte_count, bytes_in}
 use Rattle.xdr_stream.specs.Trace as trace
 use Rattle.xdr_stream.specs.Trace.{Trace, level, IsOpen}
-use Rattle.xdr_stream.specs.Private.Reported.{part_in}
+use Rattle.xdr_stream.specs.Private.Reported.{finished_in}
 use Rattle.xdr_stream.specs.Private.Reported.{IsMany, added, add, leaf_in, open_in, close_in, content_in, close_levels}
 use Rattle.xdr_stream.specs.Private.Reported.{extend_in, CanClose, CanCloseLevels, HasSpaceAt, HasSpaceIn, HasSpace}
 use Rattle.xdr_stream.specs.Private.Reported.{IsManyIn, TakesMany, leaf_tree}
 use Rattle.xdr_stream.specs.Nodes.{head_of_leaf}
-use Rattle.xdr_stream.specs.Private.Runs.{number_head, numbers_in}
+use Rattle.xdr_stream.specs.Private.NumbersReported.{number_head, numbers_in}
 use Rattle.xdr_stream.specs.Values.{trace_of, level_of, levels_onto, Reports}
 use Rattle.xdr_stream.specs.Retained.{nodes_in, bytes_in_parts, bytes_retained}
 use Rattle.xdr_stream.specs.declared.builder.Leaf.{Leaf}
@@ -198,15 +198,15 @@ reports_content b n v t made grown parents content counted retained reported spa
     reports_more b n t (content_in t) 1 0 is (nodes_added w t.levels space)
     (omega (arith, bytes_added w t.levels space)) counted (λ few. omega (arith, retained)) reported
 
--- content that came whole, behind what had come of it before
-pub reports_whole : (b n : Values) (v : Value) (bs : List ℕ) (t : Trace)
+-- content that is complete, behind what had come of it before
+pub reports_complete : (b n : Values) (v : Value) (bs : List ℕ) (t : Trace)
     → tree v ≡ leaf_tree (value.bytes (b.content.items ++ bs))
     → level_of n.work ≡ level (level_of b.work).head (added (level_of b.work).head (level_of b.work).done (tree v))
     → n.parents.items ≡ b.parents.items → n.content.items ≡ []
     → (b.nodes + 1 < 2 ^ 64 → n.nodes ≡ b.nodes + 1)
     → (b.retained + length bs < 2 ^ 64 → n.retained ≡ b.retained + length bs) → Reports b t → HasSpace t
     → Reports n (content_in (extend_in bs t))
-reports_whole b n v bs t made grown parents content counted longer reported space =
+reports_complete b n v bs t made grown parents content counted longer reported space =
     let before : b.content.items ≡ t.content = ap (λ (x : Trace). x.content) reported.trace in
     let w : Tree = leaf_tree (value.bytes (t.content ++ bs)) in
     let same = grown ∙ ap (λ (w : Tree). level (level_of b.work).head
@@ -225,14 +225,14 @@ pub reports_part : (b n : Values) (v : Value) (t : Trace)
     → n.parents.items ≡ b.parents.items → n.content.items ≡ b.content.items
     → (b.nodes + node_count (tree v) < 2 ^ 64 → n.nodes ≡ b.nodes + node_count (tree v))
     → (b.retained + byte_count (tree v) < 2 ^ 64 → n.retained ≡ b.retained + byte_count (tree v)) → Reports b t
-    → HasSpace t → Reports n (part_in (tree v) t)
+    → HasSpace t → Reports n (finished_in (tree v) t)
 reports_part b n v t grown parents content counted longer reported space =
-    let is : trace_of n ≡ part_in (tree v) t =
+    let is : trace_of n ≡ finished_in (tree v) t =
     ap (λ (ls : List Level). trace_at (level_of n.work ∷ levels_onto [] ls) n.content.items) parents
     ∙ ap (λ (bs : List ℕ). trace_at (level_of n.work ∷ levels_onto [] b.parents.items) bs)
     (content ∙ ap (λ (x : Trace). x.content) reported.trace)
     ∙ grown_level b (level_of n.work) (tree v) t t.content reported.trace grown in
-    reports_more b n t (part_in (tree v) t) (node_count (tree v)) (byte_count (tree v)) is
+    reports_more b n t (finished_in (tree v) t) (node_count (tree v)) (byte_count (tree v)) is
     (nodes_added (tree v) t.levels space) (omega (arith, bytes_added (tree v) t.levels space)) counted longer reported
 
 pub reports_open : (b n : Values) (h : Head) (t : Trace) → trace_of n ≡ open_in h t

@@ -16,7 +16,7 @@ use Rattle.xdr_stream.specs.Frames.{left_of, onto, stack_of}
 use Rattle.xdr_stream.specs.Trace.{Trace}
 use Rattle.xdr_stream.specs.Private.Reported.{leaf_in}
 use Rattle.xdr_stream.specs.Sees.{Sees, IsReady}
-use Rattle.xdr_stream.specs.Private.Runs.{number_kind, number_head, numbers_in}
+use Rattle.xdr_stream.specs.Private.NumbersReported.{number_kind, number_head, numbers_in}
 use Rattle.xdr_stream.specs.declared.machine.frame.Frame.{Frame}
 use Rattle.xdr_stream.specs.declared.machine.frame.Frame.TheVariants.{Items}
 use Rattle.xdr_stream.specs.Private.Sound.{IsSound, Starts, IsAwaited, Waits}

@@ -233,12 +233,12 @@ pub bytes_taken : (n : ℕ) (bs : List ℕ) → ((i : ℕ) → get_or bs i 0 < 2
 bytes_taken n bs h = are_bytes_of (take n bs) (AreBytes-take n bs (bytes_at bs h))
 
 -- all of what is left of content and its padding at once
-pub whole_content : (s : List KindView) → EachKindHasAValue s → EachPartIsKnown s → (t : ℕ) (l : Bounds)
+pub complete_content : (s : List KindView) → EachKindHasAValue s → EachPartIsKnown s → (t : ℕ) (l : Bounds)
     (fs : List (List Part)) (H I : Trace → Type 0) (u : List ℕ) (n : ℕ) (q : List ℕ) → length u % 4 ≡ 0
     → are_bytes u ≡ true → n ≤ length u → length u < n + 4 → 0 < n → are_zeros (drop n u) ≡ true
     → length q + length u ≤ l.bytes → ((a : Trace) → H a → I (content_in (extend_in (take n u) a)))
     → Sees s t l H (Content n) fs q → Sees s t l I Next fs (q ++ u)
-whole_content s has known t l fs H I u n q units are most least some zeros space reports r =
+complete_content s has known t l fs H I u n q units are most least some zeros space reports r =
     let m : ℕ = length u - 4 in
     let k : ℕ = n - m in
     let v : List ℕ = take m u in

@@ -43,7 +43,10 @@ pub fn decided_of(notes: &Vec<Noted>, place: usize, kind: &Kind) -> Option<Decid
             Deciding::Free => None,
             Deciding::Unit(decided) => Some(decided),
         },
-        _ => None,
+        Kind::Int | Kind::Unsigned | Kind::Hyper | Kind::UnsignedHyper => None,
+        Kind::Opaque { .. } | Kind::OpaqueUpTo { .. } | Kind::Text { .. } => None,
+        Kind::Fixed { .. } | Kind::UpTo { .. } => None,
+        Kind::Choice { .. } | Kind::Maybe { .. } | Kind::Nothing => None,
     }
 }
 

@@ -41,7 +41,8 @@ pub fn extent_of(notes: &Vec<Noted>, kind: &Kind) -> Option<Extent>
         Kind::Opaque { size } => of_content(*size),
         Kind::Fixed { item, size } => repeated(noted_extent(notes, *item)?, *size),
         Kind::Structure { fields } => over(of_fields(notes, fields)?),
-        _ => None,
+        Kind::OpaqueUpTo { .. } | Kind::Text { .. } | Kind::UpTo { .. } => None,
+        Kind::Choice { .. } | Kind::Maybe { .. } | Kind::Nothing => None,
     }
 }
 

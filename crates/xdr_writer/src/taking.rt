@@ -1,12 +1,12 @@
 //! An item taken: what is due, its form, and its bytes judged and then written.
-ghost use Rattle.std.specs.Prelude.{◌≡◌, ◌≤◌, ◌+◌, ◌%◌, List, ℕ, length, IfOk, IfErr, MatchResult, vec_capacity, ◌++◌};
+ghost use Rattle.std.specs.Prelude.{◌≡◌, ◌≤◌, ◌+◌, List, ℕ, length, IfOk, IfErr, MatchResult, vec_capacity, ◌++◌};
 ghost use Rattle.std.specs.Prelude.{true, false};
-ghost use Rattle.xdr_codec.specs.Checks.{RepresentsBytes, schema_of, limits_of, IsWaiting};
+ghost use Rattle.xdr_codec.specs.Checks.{RepresentsBytes, IsWaiting};
 ghost use Rattle.xdr_writer.specs.Items.{NodeItem, item_view};
 ghost use Rattle.xdr_writer.specs.Answers.{most_bytes};
 ghost use Rattle.xdr_writer.specs.Private.Bytes.{coded_bytes, pieces_bytes};
 ghost use Rattle.xdr_writer.specs.Private.Judged.{Judges, Grants, IsJudgedWithin, Kept};
-ghost use Rattle.xdr_writer.specs.Private.After.{FindsDue, IsAfter, TookItem, RefusesItem, FollowsItem};
+ghost use Rattle.xdr_writer.specs.Private.After.{CanTake, FindsDue, IsAfter, TookItem, RefusesItem, FollowsItem};
 
 use crate::forms::coded_of;
 use crate::item::{Item, Step};
@@ -136,10 +136,7 @@ pub(crate) fn take(
     item: Item<'_>,
     out: &mut Vec<u8>,
 ) -> Result<Step, Why>
-    requires schema { schema_of checker.old ≡ schema.now }
-    requires units { (limits_of checker.old).bytes % 4 ≡ 0 }
-    requires low { space ≤ 16777216 }
-    requires waiting { known.old.waits ≡ true → (IsWaiting checker.old → ⊥) → ⊥ }
+    requires { CanTake checker.old schema.now known.old space }
     ensures took { IfOk result (λ s. (is : List NodeItem) → IsAfter checker.old is
         → TookItem checker.old checker.new is (item_view item.entry) out.old.items out.new.items s) }
     ensures refuses { IfErr result

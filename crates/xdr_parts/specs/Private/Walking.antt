@@ -87,3 +87,11 @@ pub record IsGroup (w : Walk) (n : Next) (k : KindView) (f : Frame) : Type 0 whe
   pub kind : k ≡ kind_at w.schema.now.kinds n.kind.place
   pub silent : IsSilent (lead_of k)
   pub frame : parts k (silent_head k) ≡ left_of f
+
+-- the part that comes next is so many bytes, whatever they are, and this frame is left behind it
+pub record IsFreePart (w : Walk) (n : Next) (k : KindView) (role : Role) (size : ℕ) (rest : Frame) : Type 0 where
+  pub walked : (all : Aim) × HasWalked w all
+  pub next : IsNext w n
+  pub kind : k ≡ kind_at w.schema.now.kinds n.kind.place
+  pub free : IsFree k role size
+  pub rest : left_of rest ≡ rest_of (left_of w.work)

@@ -10,12 +10,12 @@ use Rattle.xdr_types.specs.Spelling.{spelling, bytes_of}
 use Rattle.xdr_types.specs.View.{tree, values}
 use Rattle.xdr_types.specs.declared.value.Value.{Value}
 use Rattle.xdr_laws.specs.Held.{node_count, byte_count, count_nodes, count_bytes}
-use Rattle.xdr_stream.specs.Private.Entire.{IsPadded}
+use Rattle.xdr_stream.specs.Private.Complete.{IsPadded}
 use Rattle.xdr_stream.specs.Private.Reported.{leaf_tree}
 use Rattle.xdr_stream.specs.declared.builder.tally.Tally.{Tally}
 use Rattle.xdr_stream.specs.declared.machine.frame.Frame.{Frame}
 use Rattle.xdr_stream.specs.declared.machine.frame.Frame.TheVariants.{Fields, Items, Arm}
-use Rattle.xdr_stream.specs.declared.runs.content.Whole.{Whole}
+use Rattle.xdr_stream.specs.declared.peek.content.Counted.{Counted}
 
 -- so many nodes are counted, and so many bytes of content, where they go into 64 bits (RFC 4506 section 4.9)
 pub record Adds (a b : Tally) (nodes bytes : ℕ) : Type 0 where
@@ -69,17 +69,17 @@ pub record IsContent (size : ℕ) (bytes : List ℕ) (a b : Tally) (v : Value) :
   pub adds : Adds a b 1 size
 
 -- the value is the content behind its length, so many bytes were taken with the padding, and it is counted
-pub record IsHanded (w : Whole) (bytes : List ℕ) (a b : Tally) (v : Value) : Type 0 where
+pub record IsHanded (w : Counted) (bytes : List ℕ) (a b : Tally) (v : Value) : Type 0 where
   pub is : tree v ≡ leaf_tree (value.bytes (take w.size (drop (a.at + 4) bytes)))
   pub moved : b.at ≡ a.at + w.all
   pub adds : Adds a b 1 w.size
 
 -- a head counts its parts: so many items, one under a discriminant or a flag (RFC 4506 sections 4.12 to 4.15, 4.19)
-abbrev pub Counts : Head → List Part → Type 0
-Counts (value.items n) ps = length ps ≡ n
-Counts (value.tag z) ps = length ps ≡ 1
-Counts value.present ps = length ps ≡ 1
-Counts _ ps = ⊤
+abbrev pub CountsParts : Head → List Part → Type 0
+CountsParts (value.items n) ps = length ps ≡ n
+CountsParts (value.tag z) ps = length ps ≡ 1
+CountsParts value.present ps = length ps ≡ 1
+CountsParts _ ps = ⊤
 
 -- the parts of a structure or of a fixed array, which no unit comes before (RFC 4506 sections 4.12, 4.14)
 abbrev pub IsBare : KindView → Frame → Type 0

@@ -4,11 +4,11 @@ use Rattle.xdr_types.specs.Kinds as xdr
 use Rattle.xdr_types.specs.Kinds.{KindView, Part, kind_at}
 use Rattle.xdr_types.specs.Tree.{Values}
 use Rattle.xdr_types.specs.Fits.{item_part}
-use Rattle.xdr_stream.specs.Private.Entire.{IsOneLeaf}
+use Rattle.xdr_stream.specs.Private.Complete.{IsOneLeaf}
 use Rattle.xdr_stream.specs.Private.Made.{AreMade}
 use Rattle.xdr_stream.specs.declared.builder.Leaf.{Leaf}
-use Rattle.xdr_stream.specs.declared.builder.taken.Number.{Number}
-use Rattle.xdr_stream.specs.declared.builder.taken.Number.TheVariants.{Int, Unsigned, Hyper, UnsignedHyper}
+use Rattle.xdr_stream.specs.declared.builder.bulk.Number.{Number}
+use Rattle.xdr_stream.specs.declared.builder.bulk.Number.TheVariants.{Int, Unsigned, Hyper, UnsignedHyper}
 use Rattle.xdr_stream.specs.declared.builder.tally.Tally.{Tally}
 
 -- the kind of such numbers (RFC 4506 sections 4.1, 4.2, 4.5)

@@ -45,8 +45,8 @@ add v [] = []
 add v (l ∷ ls) = level l.head (added l.head l.done v) ∷ ls
 
 -- a finished part of the innermost node
-abbrev pub part_in : Tree → Trace → Trace
-part_in v t = record { levels = add v t.levels; content = t.content }
+abbrev pub finished_in : Tree → Trace → Trace
+finished_in v t = record { levels = add v t.levels; content = t.content }
 
 abbrev pub leaf_in : Head → Trace → Trace
 leaf_in h t = record { levels = add (h, value.none) t.levels; content = t.content }

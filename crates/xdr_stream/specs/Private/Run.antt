@@ -2,10 +2,10 @@
 use Rattle.std.specs.Prelude.{◌≡◌, ℕ, ◌+◌, ◌*◌, ◌%◌, ◌<◌, ◌≤◌, List, length}
 use Rattle.xdr_types.specs.Kinds.{KindView, kind_at}
 use Rattle.xdr_types.specs.Within.{Bounds}
-use Rattle.xdr_stream.specs.Private.Runs.{number_kind, hyper_kind}
+use Rattle.xdr_stream.specs.Private.NumbersReported.{number_kind, hyper_kind}
 use Rattle.xdr_stream.specs.declared.machine.frame.Frame.{Frame}
 use Rattle.xdr_stream.specs.declared.machine.frame.Frame.TheVariants.{Items}
-use Rattle.xdr_stream.specs.declared.runs.numbers.Run.{Run}
+use Rattle.xdr_stream.specs.declared.peek.run.Run.{Run}
 
 -- the node is an array with so many items to come, numbers of one unit (RFC 4506 sections 4.1, 4.2, 4.12, 4.13)
 pub record IsRun (kinds : List KindView) (work : Frame) (r : Run) : Type 0 where
@@ -23,7 +23,7 @@ pub record IsHypers (kinds : List KindView) (work : Frame) (r : Run) : Type 0 wh
 pub record TakesRun (kinds : List KindView) (work : Frame) (r : Run) (last n : ℕ) (bytes : List ℕ) : Type 0 where
   pub units : n % 4 ≡ 0
   pub some : 4 < n
-  pub there : n ≤ length bytes
+  pub here : n ≤ length bytes
   pub last_some : 0 < last
   pub due : IsRun kinds work r
   pub left : 4 * r.left + 4 ≡ 4 * last + n
@@ -34,7 +34,7 @@ pub record TakesHypers (kinds : List KindView) (limits : Bounds) (work : Frame) 
     (last n : ℕ) (bytes : List ℕ) : Type 0 where
   pub units : n % 8 ≡ 0
   pub some : 0 < n
-  pub there : n ≤ length bytes
+  pub here : n ≤ length bytes
   pub due : IsHypers kinds work r
   pub left : 8 * r.left ≡ 8 * last + n
   pub deep : length parents < limits.depth

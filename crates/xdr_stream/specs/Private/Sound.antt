@@ -1,8 +1,10 @@
 -- Which parts the nodes at work of a reader may have, whatever bytes it was given.
-use Rattle.std.specs.Prelude.{◌<◌, List, [], ◌∷◌, length, ⊤}
+use Rattle.std.specs.Prelude.{◌≡◌, ◌<◌, List, [], ◌∷◌, length, ⊤}
 use Rattle.xdr_types.specs.Kinds.{KindView, Part, kind_at}
+use Rattle.xdr_types.specs.KindViews.{kind_view}
 use Rattle.xdr_laws.specs.Owed.{lead_of, HasUnit, IsSolid}
-use Rattle.xdr_stream.specs.Frames.{stack_of}
+use Rattle.xdr_stream.specs.Frames.{left_of, stack_of, Begins}
+use Rattle.xdr_stream.specs.declared.machine.frame.Coming.{Coming}
 use Rattle.xdr_stream.specs.declared.machine.frame.Frame.{Frame}
 use Rattle.xdr_stream.specs.declared.machine.Awaits.{Awaits}
 use Rattle.xdr_stream.specs.declared.machine.Awaits.TheVariants.{Next, Content, Wide, Low}
@@ -61,3 +63,10 @@ Waits kinds ps Fresh = ⊤
 Waits kinds ps (Reading a) = IsAwaited kinds ps a
 Waits kinds ps Finished = ⊤
 Waits kinds ps (Failed f) = ⊤
+
+-- this part comes next at the node at work, and its kind begins with a unit
+pub record ComesByUnit (kinds : List KindView) (work : Frame) (parents : List Frame) (coming : Coming) : Type 0 where
+  pub sound : IsSound kinds (stack_of work parents)
+  pub first : Begins (left_of work) coming.id.place
+  pub kind : kind_view coming.kind.now ≡ kind_at kinds coming.id.place
+  pub unit : HasUnit (lead_of (kind_view coming.kind.now))

@@ -1,27 +1,27 @@
 //! What is made of the nodes that are read.
 //!
 //! - `values`: a value. `level`: a node of it at work. `nothing`: nothing.
-//! - `made`: a part of a value at once. `flat`: one without parts. `taken`: its content, and many numbers. `tally`:
-//!   what is counted of them. `whole`: a part that is there whole, added to the value.
+//! - `make`: a part of a value at once. `single`: one without parts. `bulk`: its content, and many numbers. `tally`:
+//!   what is counted of them. `complete`: a complete part, added to the value.
 ghost use Rattle.std.specs.Prelude.{◌≡◌, ◌<◌, ◌≤◌, ◌%◌, List, ℕ, length, take, OnOk, IfOk, IsOk};
 ghost use Rattle.std.specs.Int.{w64, from_be_bytes};
 ghost use Rattle.xdr_stream.specs.Trace.{Trace, at_start};
 ghost use Rattle.xdr_stream.specs.Sees.{make_wide};
 ghost use Rattle.xdr_stream.specs.Private.Reported.{leaf_in, open_in, close_in, extend_in, content_in, CanClose};
-ghost use Rattle.xdr_stream.specs.Private.Reported.{HasSpace, TakesMany, part_in};
-ghost use Rattle.xdr_stream.specs.Private.Ahead.{IsAhead};
+ghost use Rattle.xdr_stream.specs.Private.Reported.{HasSpace, TakesMany, finished_in};
+ghost use Rattle.xdr_stream.specs.Private.Peeked.{IsPeeked};
 ghost use Rattle.xdr_stream.specs.Private.Alone.{IsAlone};
 ghost use Rattle.xdr_stream.specs.Nodes.{head_of_leaf, head_of_node};
-ghost use Rattle.xdr_stream.specs.Private.Runs.{numbers_in, hypers_in};
+ghost use Rattle.xdr_stream.specs.Private.NumbersReported.{numbers_in, hypers_in};
 
-pub mod flat;
+pub mod bulk;
+pub mod complete;
 pub mod level;
-pub mod made;
+pub mod make;
 pub mod nothing;
-pub mod taken;
+pub mod single;
 pub mod tally;
 pub mod values;
-pub mod whole;
 
 use std::alloc::AllocError;
 use xdr_types::{KindId, Schema};
@@ -114,18 +114,18 @@ pub trait Build {
             → reports self.new (content_in t)) }
         ensures granted { spares → IsOk result };
 
-    /// Bytes of content and its end, which make a node without parts.
-    fn whole(&mut self, bytes: &[u8]) -> Result<(), AllocError>
+    /// Content whose last bytes are these, all of them here, which makes a node without parts.
+    fn complete_content(&mut self, bytes: &[u8]) -> Result<(), AllocError>
         ensures reported { OnOk result ((t : Trace) → reports self.old t → HasSpace t
             → reports self.new (content_in (extend_in bytes.now t))) }
         ensures granted { spares → IsOk result };
 
-    /// Whether a part of the kind is one that `part` takes, unless it is refused, where so many bytes are there.
-    fn tries(&self, schema: &Schema, kind: KindId, there: usize) -> bool;
+    /// Whether a part of the kind is one that `fixed_size` takes, unless it is refused, where so many bytes are here.
+    fn takes_fixed_size(&self, schema: &Schema, kind: KindId, here: usize) -> bool;
 
     /// A part, where bytes begin with its value, of at most so many levels; how many of them it has, and 0 where they
     /// do not. It has taken nothing then.
-    fn part(
+    fn fixed_size(
         &mut self,
         schema: &Schema,
         kind: KindId,
@@ -134,14 +134,14 @@ pub trait Build {
     ) -> Result<usize, AllocError>
         requires { kind.place < length schema.now.kinds }
         ensures within { IfOk result (λ n. n ≤ length bytes.now) }
-        ensures taken { IfOk result (λ n. 0 < n → (o : IsAhead schema.now.kinds kind.place levels (take n bytes.now))
-            × ((t : Trace) → reports self.old t → HasSpace t → reports self.new (part_in o.value t))) }
+        ensures taken { IfOk result (λ n. 0 < n → (o : IsPeeked schema.now.kinds kind.place levels (take n bytes.now))
+            × ((t : Trace) → reports self.old t → HasSpace t → reports self.new (finished_in o.value t))) }
         ensures stays { IfOk result (λ n. n ≡ 0 → (t : Trace) → reports self.old t → reports self.new t) }
         ensures granted { spares → IsOk result };
 
     /// The same of a number, of content, of a short union or optional, or of an array without items, where the builder
     /// takes that; of no other part.
-    fn field(
+    fn flat(
         &mut self,
         schema: &Schema,
         kind: KindId,
@@ -151,8 +151,8 @@ pub trait Build {
         requires known { kind.place < length schema.now.kinds }
         requires some { 0 < levels }
         ensures within { IfOk result (λ n. n ≤ length bytes.now) }
-        ensures taken { IfOk result (λ n. 0 < n → (o : IsAhead schema.now.kinds kind.place levels (take n bytes.now))
-            × ((t : Trace) → reports self.old t → HasSpace t → reports self.new (part_in o.value t))) }
+        ensures taken { IfOk result (λ n. 0 < n → (o : IsPeeked schema.now.kinds kind.place levels (take n bytes.now))
+            × ((t : Trace) → reports self.old t → HasSpace t → reports self.new (finished_in o.value t))) }
         ensures stays { IfOk result (λ n. n ≡ 0 → (t : Trace) → reports self.old t → reports self.new t) }
         ensures granted { spares → IsOk result };
 

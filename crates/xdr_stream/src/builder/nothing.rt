@@ -2,10 +2,10 @@
 ghost use Rattle.std.specs.Prelude.{⊤};
 
 use crate::builder::{Build, Leaf, Node};
-use crate::runs::ahead::{content_ahead, part_ahead, short_ahead};
-use crate::runs::content::whole_ahead;
-use crate::runs::leaf::{is_leaf, leaf_ahead};
-use crate::runs::sort::is_short;
+use crate::peek::content::peek_counted;
+use crate::peek::leaf::{peek_leaf, refuses_numbers};
+use crate::peek::sort::is_short;
+use crate::peek::value::{peek_content, peek_part, peek_short};
 use std::alloc::AllocError;
 use xdr_types::{Kind, KindId, Schema};
 
@@ -52,22 +52,22 @@ impl Build for Nothing {
     }
 
     #[inline(always)]
-    fn whole(&mut self, _: &[u8]) -> Result<(), AllocError> {
+    fn complete_content(&mut self, _: &[u8]) -> Result<(), AllocError> {
         Ok(())
     }
 
     #[inline(always)]
-    fn tries(&self, schema: &Schema, kind: KindId, there: usize) -> bool {
+    fn takes_fixed_size(&self, schema: &Schema, kind: KindId, here: usize) -> bool {
         match schema.extent(kind) {
             Some(extent) => {
-                extent.bytes as usize <= there && (extent.free || schema.decided(kind).is_some())
+                extent.bytes as usize <= here && (extent.free || schema.decided(kind).is_some())
             }
             None => false,
         }
     }
 
     #[inline(always)]
-    fn part(
+    fn fixed_size(
         &mut self,
         schema: &Schema,
         kind: KindId,
@@ -77,20 +77,20 @@ impl Build for Nothing {
         if levels == 0 {
             return Ok(0);
         }
-        if let Some((_, size)) = leaf_ahead(schema, kind, bytes) {
+        if let Some((_, size)) = peek_leaf(schema, kind, bytes) {
             return Ok(size);
         }
-        if is_leaf(schema.kind(kind)) {
+        if refuses_numbers(schema.kind(kind)) {
             return Ok(0);
         }
-        match part_ahead(schema, kind, bytes, levels) {
+        match peek_part(schema, kind, bytes, levels) {
             Some(n) => Ok(n),
             None => Ok(0),
         }
     }
 
     #[inline(always)]
-    fn field(
+    fn flat(
         &mut self,
         schema: &Schema,
         kind: KindId,
@@ -98,25 +98,25 @@ impl Build for Nothing {
         bytes: &[u8],
     ) -> Result<usize, AllocError> {
         match schema.kind(kind) {
-            Kind::OpaqueUpTo { .. } | Kind::Text { .. } => match whole_ahead(schema, kind, bytes) {
-                Some(whole) => Ok(whole.all),
+            Kind::OpaqueUpTo { .. } | Kind::Text { .. } => match peek_counted(schema, kind, bytes) {
+                Some(counted) => Ok(counted.all),
                 None => Ok(0),
             },
             Kind::Choice { .. } | Kind::Maybe { .. } if is_short(schema, kind, levels) => {
-                match short_ahead(schema, kind, bytes, levels) {
+                match peek_short(schema, kind, bytes, levels) {
                     Some(n) => Ok(n),
                     None => Ok(0),
                 }
             }
-            Kind::Opaque { size } => match content_ahead(*size, bytes) {
+            Kind::Opaque { size } => match peek_content(*size, bytes) {
                 Some(n) => Ok(n),
                 None => Ok(0),
             },
-            Kind::UpTo { .. } => match short_ahead(schema, kind, bytes, levels) {
+            Kind::UpTo { .. } => match peek_short(schema, kind, bytes, levels) {
                 Some(n) => Ok(n),
                 None => Ok(0),
             },
-            _ => match leaf_ahead(schema, kind, bytes) {
+            _ => match peek_leaf(schema, kind, bytes) {
                 Some((_, n)) => Ok(n),
                 None => Ok(0),
             },

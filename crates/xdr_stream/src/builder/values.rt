@@ -4,7 +4,7 @@ ghost use Rattle.std.specs.Int.{w32, from_be_bytes};
 ghost use Rattle.xdr_types.specs.Tree.{bytes};
 ghost use Rattle.xdr_types.specs.View.{tree};
 ghost use Rattle.xdr_stream.specs.Nodes.{head_of_leaf};
-ghost use Rattle.xdr_stream.specs.Private.Runs.{number_head};
+ghost use Rattle.xdr_stream.specs.Private.NumbersReported.{number_head};
 ghost use Rattle.xdr_stream.specs.Trace.{Trace, at_start};
 ghost use Rattle.xdr_stream.specs.Private.Reported.{HasSpace, leaf_in, leaf_tree};
 ghost use Rattle.xdr_stream.specs.Values.{Reports};
@@ -12,8 +12,8 @@ ghost use Rattle.xdr_stream.specs.Values.{Reports};
 use crate::builder::level::{Level, add, add_item, begun, closed};
 use crate::builder::{Build, Leaf, Node, hyper_leaf};
 use crate::machine::unit::hyper_at;
-use crate::runs::leaf::leaf_ahead;
-use crate::runs::sort::is_short;
+use crate::peek::leaf::peek_leaf;
+use crate::peek::sort::is_short;
 use std::alloc::{AllocError, Global};
 use xdr_stack::Blocks;
 use xdr_types::{Extent, Kind, KindId, Schema, Value};
@@ -86,10 +86,10 @@ fn number_at(bytes: &[u8], at: usize) -> u32
     u32::from_be_bytes([bytes[at], bytes[at + 1], bytes[at + 2], bytes[at + 3]])
 }
 
-// Whether a part is made at once: its bytes are there, and any are a value, or they are few.
+// Whether a part is made at once: its bytes are here, and any are a value, or they are few.
 #[inline(always)]
-fn is_worth(extent: Extent, there: usize) -> bool {
-    extent.bytes as usize <= there && (extent.free || extent.bytes <= MOST_IN_VAIN)
+fn is_worth(extent: Extent, here: usize) -> bool {
+    extent.bytes as usize <= here && (extent.free || extent.bytes <= MOST_IN_VAIN)
 }
 
 impl Values {
@@ -107,9 +107,9 @@ impl Values {
         }
     }
 
-    // Space for so many items, where the node at work is an array: those that are there, and the one behind them.
+    // Space for so many items, where the node at work is an array: those that are here, and the one behind them.
     #[inline(always)]
-    fn make_room(&mut self, count: usize) -> Result<(), AllocError>
+    fn reserve_items(&mut self, count: usize) -> Result<(), AllocError>
         ensures { OnOk result ((t : Trace) → Reports self.old t → Reports self.new t) }
     {
         if let Level::Items { items, .. } = &mut self.work {
@@ -144,7 +144,7 @@ impl Build for Values {
 
     #[inline(never)]
     fn numbers(&mut self, signed: bool, units: &[u8]) -> Result<(), AllocError> {
-        self.make_room(units.len() / 4 + 1)?;
+        self.reserve_items(units.len() / 4 + 1)?;
         let mut at = 0;
         while at < units.len() {
             let value = number_value(signed, number_at(units, at));
@@ -157,7 +157,7 @@ impl Build for Values {
 
     #[inline(never)]
     fn hypers(&mut self, signed: bool, units: &[u8]) -> Result<(), AllocError> {
-        self.make_room(units.len() / 8 + 1)?;
+        self.reserve_items(units.len() / 8 + 1)?;
         let mut at = 0;
         while at < units.len() {
             self.item(hyper_leaf(signed, hyper_at(units, at)))?;
@@ -205,7 +205,7 @@ impl Build for Values {
     }
 
     #[inline(never)]
-    fn whole(&mut self, bytes: &[u8]) -> Result<(), AllocError> {
+    fn complete_content(&mut self, bytes: &[u8]) -> Result<(), AllocError> {
         let mut content = std::mem::replace(&mut self.content, Vec::new(self.alloc));
         content.reserve_exact(bytes.len())?;
         content.extend_from_slice(bytes)?;
@@ -216,14 +216,14 @@ impl Build for Values {
     }
 
     #[inline(always)]
-    fn tries(&self, schema: &Schema, kind: KindId, there: usize) -> bool {
+    fn takes_fixed_size(&self, schema: &Schema, kind: KindId, here: usize) -> bool {
         match schema.extent(kind) {
-            Some(extent) => extent.depth <= MOST_LEVELS && is_worth(extent, there),
+            Some(extent) => extent.depth <= MOST_LEVELS && is_worth(extent, here),
             None => false,
         }
     }
 
-    fn part(
+    fn fixed_size(
         &mut self,
         schema: &Schema,
         kind: KindId,
@@ -233,21 +233,21 @@ impl Build for Values {
         if levels == 0 {
             return Ok(0);
         }
-        if let Some((leaf, size)) = leaf_ahead(schema, kind, bytes) {
+        if let Some((leaf, size)) = peek_leaf(schema, kind, bytes) {
             self.leaf(leaf)?;
             return Ok(size);
         }
         let Some(most) = schema.levels(kind) else {
             return Ok(0);
         };
-        if most > levels || !self.tries(schema, kind, bytes.len()) {
+        if most > levels || !self.takes_fixed_size(schema, kind, bytes.len()) {
             return Ok(0);
         }
-        self.made(schema, kind, levels, bytes)
+        self.add_made(schema, kind, levels, bytes)
     }
 
     #[inline(always)]
-    fn field(
+    fn flat(
         &mut self,
         schema: &Schema,
         kind: KindId,
@@ -255,14 +255,14 @@ impl Build for Values {
         bytes: &[u8],
     ) -> Result<usize, AllocError> {
         match schema.kind(kind) {
-            Kind::OpaqueUpTo { .. } | Kind::Text { .. } => self.content_of(
+            Kind::OpaqueUpTo { .. } | Kind::Text { .. } => self.add_counted(
                 schema, kind, levels, bytes,
             ),
             Kind::Choice { .. } | Kind::Maybe { .. } if is_short(schema, kind, levels) => {
-                self.made(schema, kind, levels, bytes)
+                self.add_made(schema, kind, levels, bytes)
             }
-            Kind::Opaque { size: _ } => self.made(schema, kind, levels, bytes),
-            _ => match leaf_ahead(schema, kind, bytes) {
+            Kind::Opaque { size: _ } => self.add_made(schema, kind, levels, bytes),
+            _ => match peek_leaf(schema, kind, bytes) {
                 Some((leaf, size)) => {
                     self.leaf(leaf)?;
                     Ok(size)

@@ -64,7 +64,7 @@ pub(crate) fn is_unit_due<'s>(
 
 /// Ends and begins what takes no byte, and tells what comes next; nothing, where the value is whole.
 #[inline(always)]
-pub(crate) fn settle<'s, B: Build>(
+pub(crate) fn settle_nodes<'s, B: Build>(
     schema: &'s Schema,
     limits: Limits,
     work: &mut Frame<'s>,

@@ -1,4 +1,4 @@
-//! Nodes that end and begin without a byte, where parts may follow that are there whole.
+//! Nodes that end and begin without a byte, where complete parts may follow.
 ghost use Rattle.std.specs.Prelude.{◌≡◌, ℕ, List, [], IfErr, OnOk};
 ghost use Rattle.xdr_types.specs.Kinds.{kind_at};
 ghost use Rattle.xdr_types.specs.KindViews.{kind_view};
@@ -10,14 +10,14 @@ ghost use Rattle.xdr_stream.specs.declared.fault.Reason.TheVariants.{NoMemory};
 ghost use Rattle.xdr_stream.specs.declared.machine.Awaits.TheVariants.{Next};
 
 use crate::builder::{Build, Leaf, Node};
-use crate::machine::frame::{Frame, after, next};
+use crate::machine::frame::{Coming, Frame, after, next};
 use crate::machine::nodes::{end_nodes, open};
 use crate::machine::step::{Step, step_of};
 use std::alloc::AllocError;
 use xdr_stack::Stack;
 use xdr_types::{Kind, KindId, Limits, Schema};
 
-/// How many nodes are begun in one step at most.
+/// How many nodes are begun in one turn at most.
 const MOST_NODES: u32 = 64;
 
 /// While as many may still be begun, a part that comes first is tried at once: in deeper ones it is begun.
@@ -59,15 +59,14 @@ pub(crate) fn leave<'s, B: Build>(
 pub(crate) fn enter<'s, B: Build>(
     schema: &'s Schema,
     limits: Limits,
-    id: KindId,
-    kind: &'s Kind,
+    coming: Coming<'s>,
     work: &mut Frame<'s>,
     parents: &mut Stack<Frame<'s>>,
     built: &mut B,
 ) -> Result<bool, AllocError>
     requires sound { IsSound schema.now.kinds (stack_of work.old parents.old.items) }
-    requires first { Begins (left_of work.old) id.place }
-    requires kind { kind_view kind.now ≡ kind_at schema.now.kinds id.place }
+    requires first { Begins (left_of work.old) coming.id.place }
+    requires kind { kind_view coming.kind.now ≡ kind_at schema.now.kinds coming.id.place }
     ensures follows { OnOk result ((kind : ℕ) (q : List ℕ)
         → Sees schema.now.kinds kind limits (B.reports built.old) Next (stack_of work.old parents.old.items) q
         → Sees schema.now.kinds kind limits (B.reports built.new) Next (stack_of work.new parents.new.items) q) }
@@ -80,7 +79,7 @@ pub(crate) fn enter<'s, B: Build>(
     if parents.len() >= deepest {
         return Ok(false);
     }
-    match step_of(kind) {
+    match step_of(coming.kind) {
         Step::Fields(fields) => {
             let node = Node::Fields(fields.len());
             open(work, parents, built, node, Frame::Fields { fields })?;
@@ -101,21 +100,20 @@ pub(crate) fn enter<'s, B: Build>(
 }
 
 /// The same, and then the structures and fixed arrays that come first in it, up to one that is tried at once where so
-/// many bytes are there. Whether it began any.
+/// many bytes are here. Whether it began any.
 #[inline(always)]
 pub(crate) fn enter_nodes<'s, B: Build>(
     schema: &'s Schema,
     limits: Limits,
-    id: KindId,
-    kind: &'s Kind,
-    there: usize,
+    coming: Coming<'s>,
+    here: usize,
     work: &mut Frame<'s>,
     parents: &mut Stack<Frame<'s>>,
     built: &mut B,
 ) -> Result<bool, AllocError>
     requires sound { IsSound schema.now.kinds (stack_of work.old parents.old.items) }
-    requires first { Begins (left_of work.old) id.place }
-    requires kind { kind_view kind.now ≡ kind_at schema.now.kinds id.place }
+    requires first { Begins (left_of work.old) coming.id.place }
+    requires kind { kind_view coming.kind.now ≡ kind_at schema.now.kinds coming.id.place }
     ensures follows { OnOk result ((kind : ℕ) (q : List ℕ)
         → Sees schema.now.kinds kind limits (B.reports built.old) Next (stack_of work.old parents.old.items) q
         → Sees schema.now.kinds kind limits (B.reports built.new) Next (stack_of work.new parents.new.items) q) }
@@ -124,17 +122,18 @@ pub(crate) fn enter_nodes<'s, B: Build>(
     ensures sound { IsSound schema.now.kinds (stack_of work.new parents.new.items) }
 {
     let _known = schema.len();
-    let mut id = id;
-    let mut kind = kind;
+    let mut id = coming.id;
+    let mut kind = coming.kind;
     let mut left = MOST_NODES;
-    while enter(schema, limits, id, kind, work, parents, built)? {
+    while enter(schema, limits, Coming { id, kind }, work, parents, built)? {
         left -= 1;
         let Some(inner) = next(work) else {
             return Ok(true);
         };
         id = inner;
         kind = schema.kind(inner);
-        let is_tried = left >= LEAST_TRIED && (!is_bare(kind) || built.tries(schema, inner, there));
+        let is_tried = left >= LEAST_TRIED
+            && (!is_bare(kind) || built.takes_fixed_size(schema, inner, here));
         if left == 0 || is_tried {
             return Ok(true);
         }

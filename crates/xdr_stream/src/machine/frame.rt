@@ -3,7 +3,7 @@ ghost use Rattle.std.specs.Prelude.{◌≡◌, List, [], MatchOption};
 ghost use Rattle.xdr_types.specs.Kinds.{Part};
 ghost use Rattle.xdr_stream.specs.Frames.{left_of, rest_of, Begins};
 
-use xdr_types::{KindId, Member};
+use xdr_types::{Kind, KindId, Member};
 
 /// A node at work: the parts that it has not begun.
 #[derive(Clone, Copy)]
@@ -14,6 +14,15 @@ pub enum Frame<'s> {
     Items { item: KindId, left: u32 },
     /// The part of an arm.
     Arm { member: &'s Member },
+}
+
+/// The part that comes next: its kind, by its place and looked up.
+#[derive(Clone, Copy)]
+pub struct Coming<'s> {
+    /// Its place.
+    pub id: KindId,
+    /// The kind there.
+    pub kind: &'s Kind,
 }
 
 // A node without parts, which fills what has no node yet.

@@ -17,6 +17,16 @@ pub(crate) mod unit;
 
 use crate::fault::Reason;
 use std::alloc::AllocError;
+use xdr_types::Limits;
+
+/// How far reading may go at once.
+#[derive(Clone, Copy)]
+pub struct Reach {
+    /// The limits of the value.
+    pub limits: Limits,
+    /// How many bytes are here.
+    pub here: usize,
+}
 
 /// What comes next.
 #[derive(Clone, Copy)]

@@ -13,14 +13,14 @@ ghost use Rattle.xdr_stream.specs.Sees.{Sees, IsReady};
 ghost use Rattle.xdr_stream.specs.Private.Moves.{Follows, EndsAs, GoesDeep, TakesUnit, RefusesUnit, reason_of};
 ghost use Rattle.xdr_stream.specs.Private.Moves.{SparesSeen};
 ghost use Rattle.xdr_stream.specs.Private.Live.{IsLive};
-ghost use Rattle.xdr_stream.specs.Private.Sound.{IsSound, AreAllSolid, HasNext, Starts, IsAwaited};
+ghost use Rattle.xdr_stream.specs.Private.Sound.{IsSound, AreAllSolid, HasNext, Starts, IsAwaited, ComesByUnit};
 ghost use Rattle.xdr_stream.specs.declared.fault.Reason.TheVariants.{NoMemory};
 ghost use Rattle.xdr_stream.specs.declared.machine.Awaits.TheVariants.{Next};
 
 use crate::builder::{Build, Leaf, Node};
 use crate::fault::Reason;
-use crate::machine::frame::{Frame, after, next};
-use crate::machine::number::{Made, made_in};
+use crate::machine::frame::{Coming, Frame, after, next};
+use crate::machine::number::{Made, made_of_legal};
 use crate::machine::step::{Step, step_of};
 use crate::machine::{Awaits, Trouble};
 use std::alloc::AllocError;
@@ -201,24 +201,20 @@ pub(crate) fn take_number<'s, B: Build>(
         unreachable!();
     };
     let kind = schema.kind(id);
-    take_made(schema, id, kind, work, parents, built, number)
+    take_number_of_kind(schema, Coming { id, kind }, work, parents, built, number)
 }
 
 /// The same of a part whose kind is known.
 #[inline(always)]
-pub(crate) fn take_made<'s, B: Build>(
+pub(crate) fn take_number_of_kind<'s, B: Build>(
     schema: &'s Schema,
-    id: KindId,
-    kind: &'s Kind,
+    coming: Coming<'s>,
     work: &mut Frame<'s>,
     parents: &mut Stack<Frame<'s>>,
     built: &mut B,
     number: u32,
 ) -> Result<Awaits, Reason>
-    requires sound { IsSound schema.now.kinds (stack_of work.old parents.old.items) }
-    requires first { Begins (left_of work.old) id.place }
-    requires kind { kind_view kind.now ≡ kind_at schema.now.kinds id.place }
-    requires unit { HasUnit (lead_of (kind_view kind.now)) }
+    requires { ComesByUnit schema.now.kinds work.old parents.old.items coming }
     ensures live { IfOk result IsLive }
     ensures taken { IfOk result (λ a. TakesUnit schema.now.kinds (B.reports built.old) Next
         (stack_of work.old parents.old.items) (B.reports built.new) a (stack_of work.new parents.new.items)
@@ -230,7 +226,7 @@ pub(crate) fn take_made<'s, B: Build>(
     ensures sound { IsSound schema.now.kinds (stack_of work.new parents.new.items) }
 {
     let _known = schema.len();
-    let made = match made_in(schema, id, kind, number) {
+    let made = match made_of_legal(schema, coming.id, coming.kind, number) {
         Ok(made) => made,
         Err(why) => return Err(why),
     };

@@ -1,6 +1,6 @@
 //! What the first unit of a value makes.
-ghost use Rattle.std.specs.Prelude.{◌≡◌, ℕ, pos, ℤ, map, option_map, IfOk, IfErr, MatchResult, Some, true, false};
-ghost use Rattle.xdr_types.specs.Kinds.{kind_at, choice};
+ghost use Rattle.std.specs.Prelude.{◌≡◌, ℕ, pos, ℤ, List, map, option_map, IfOk, IfErr, MatchResult, Some, true, false};
+ghost use Rattle.xdr_types.specs.Kinds.{KindView, kind_at, choice, maybe, up_to};
 ghost use Rattle.xdr_types.specs.KindViews.{kind_view, branch_of, part_of_member};
 ghost use Rattle.xdr_types.specs.Fits.{is_tag_of, part_of};
 ghost use Rattle.xdr_types.specs.Faults.{has_illegal_case};
@@ -65,35 +65,42 @@ pub fn made_of<'s>(
             }
             Ok(Made::Length(number))
         }
-        Kind::UpTo { item, max } => {
-            if number > *max {
-                return Err(Reason::TooLong);
-            }
-            let frame = Frame::Items {
-                item: *item,
-                left: number,
-            };
-            Ok(Made::Open(Node::Items(number), frame))
-        }
+        Kind::UpTo { item, max } => items_of(*item, *max, number),
         Kind::Choice { tag, arms, other } => chosen(schema, id, *tag, arms, other, number),
-        Kind::Maybe { item } => match number {
-            0 => Ok(Made::Leaf(Leaf::Absent)),
-            1 => {
-                let frame = Frame::Items {
-                    item: *item,
-                    left: 1,
-                };
-                Ok(Made::Open(Node::Present, frame))
-            }
-            _ => Err(Reason::BadBool),
-        },
+        Kind::Maybe { item } => optional_of(*item, number),
         _ => unreachable!(),
+    }
+}
+
+// The array of so many items that a count makes, up to the maximum.
+#[inline(always)]
+fn items_of<'s>(item: KindId, max: u32, number: u32) -> Result<Made<'s>, Reason>
+    ensures { (kinds : List KindView) → MatchResult result (Takes kinds (up_to item.place max) number)
+        (Refuses kinds (up_to item.place max) number) }
+{
+    if number > max {
+        return Err(Reason::TooLong);
+    }
+    let frame = Frame::Items { item, left: number };
+    Ok(Made::Open(Node::Items(number), frame))
+}
+
+// The optional that a flag makes.
+#[inline(always)]
+fn optional_of<'s>(item: KindId, number: u32) -> Result<Made<'s>, Reason>
+    ensures { (kinds : List KindView) → MatchResult result (Takes kinds (maybe item.place) number)
+        (Refuses kinds (maybe item.place) number) }
+{
+    match number {
+        0 => Ok(Made::Leaf(Leaf::Absent)),
+        1 => Ok(Made::Open(Node::Present, Frame::Items { item, left: 1 })),
+        _ => Err(Reason::BadBool),
     }
 }
 
 /// The same for a kind whose cases are legal, as each kind of a schema is.
 #[inline(always)]
-pub(crate) fn made_in<'s>(
+pub(crate) fn made_of_legal<'s>(
     schema: &'s Schema,
     id: KindId,
     kind: &'s Kind,
@@ -106,7 +113,7 @@ pub(crate) fn made_in<'s>(
         (Refuses schema.now.kinds (kind_view kind.now) number) }
 {
     match kind {
-        Kind::Choice { tag, arms, other } => picked(schema, id, *tag, arms, other, number),
+        Kind::Choice { tag, arms, other } => chosen_of_legal(schema, id, *tag, arms, other, number),
         _ => made_of(schema, id, kind, number),
     }
 }
@@ -141,7 +148,7 @@ fn chosen<'s>(
 
 // The part that a discriminant picks, where the cases are legal: without a default, what has a part is one of them.
 #[inline(always)]
-fn picked<'s>(
+fn chosen_of_legal<'s>(
     schema: &'s Schema,
     id: KindId,
     tag: KindId,

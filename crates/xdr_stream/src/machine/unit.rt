@@ -84,7 +84,7 @@ fn take_bytes<B: Build>(
     if !are_zeros(&unit[left as usize..]) {
         return Err(Reason::BadPadding);
     }
-    match built.whole(&unit[..left as usize]) {
+    match built.complete_content(&unit[..left as usize]) {
         Ok(()) => Ok(Awaits::Next),
         Err(_) => Err(Reason::NoMemory),
     }

@@ -1,7 +1,7 @@
 //! Many units at once: content, and numbers one after another.
 ghost use Rattle.std.specs.Prelude.{◌≡◌, ◌+◌, ◌≤◌, ◌<◌, ◌%◌, ℕ, List, ◌++◌, length, take};
 ghost use Rattle.xdr_stream.specs.Represents.{RepresentsBytes, IsAwake, IsSame};
-ghost use Rattle.xdr_stream.specs.Private.Entire.{Advances};
+ghost use Rattle.xdr_stream.specs.Private.Complete.{Advances};
 ghost use Rattle.xdr_stream.specs.Private.Run.{TakesRun, TakesHypers};
 ghost use Rattle.xdr_stream.specs.declared.machine.Awaits.TheVariants.{Next, Content, Wide};
 ghost use Rattle.xdr_stream.specs.declared.reader.State.TheVariants.{Fresh, Reading};
@@ -11,9 +11,9 @@ use crate::fault::Reason;
 use crate::machine::Awaits;
 use crate::machine::frame::Frame;
 use crate::machine::unit::{hyper_at, unit_at};
+use crate::peek::peek_units;
+use crate::peek::run::{Run, run_due};
 use crate::reader::{Reader, State};
-use crate::runs::numbers::{Run, run_due};
-use crate::runs::units_there;
 
 impl<'s, B: Build + Drop> Reader<'s, B> {
     /// Takes so many bytes of content and its padding, units of a piece that has them; at the last of them so many
@@ -23,7 +23,7 @@ impl<'s, B: Build + Drop> Reader<'s, B> {
         requires units { n % 4 ≡ 0 }
         requires some { 4 < n }
         requires last { 0 < last }
-        requires there { n ≤ length bytes.now }
+        requires here { n ≤ length bytes.now }
         ensures represents { (b : List ℕ) (left : ℕ) → left + 4 ≡ last + n → self.old.state ≡ Reading (Content left)
             → self.old.pending ≡ 0 → n + self.old.read ≤ self.old.limits.bytes
             → RepresentsBytes B.spares B.reports self.old b
@@ -42,7 +42,7 @@ impl<'s, B: Build + Drop> Reader<'s, B> {
         }
     }
 
-    /// Takes a hyper integer that has begun, of which both units are there, and begins what comes next.
+    /// Takes a hyper integer that has begun, of which both units are here, and begins what comes next.
     #[inline(always)]
     pub(crate) fn take_hyper(&mut self, signed: bool, bytes: &[u8])
         requires { 8 ≤ length bytes.now }
@@ -97,7 +97,7 @@ impl<'s, B: Build + Drop> Reader<'s, B> {
         }
     }
 
-    /// Takes the numbers of one unit that come next at an array, as many as are there; tells how many bytes. What comes
+    /// Takes the numbers of one unit that come next at an array, as many as are here; tells how many bytes. What comes
     /// next is not settled then.
     #[inline(always)]
     pub(crate) fn take_numbers(&mut self, bytes: &[u8]) -> usize
@@ -115,7 +115,7 @@ impl<'s, B: Build + Drop> Reader<'s, B> {
             return 0;
         }
         let space = (self.limits.bytes() as usize).saturating_sub(self.read);
-        let n = units_there(due.left as usize * 4, bytes.len(), space);
+        let n = peek_units(due.left as usize * 4, bytes.len(), space);
         if n == 0 {
             return 0;
         }

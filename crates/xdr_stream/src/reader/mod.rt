@@ -2,24 +2,61 @@
 //!
 //! - `start`: a reader before any byte. `due`: what is due then.
 //! - `pieces`: pieces of bytes, unit by unit. `parts`: what comes first at a part. `many`: many units at once.
-//! - `steps`: parts that are there whole, and nodes that end and begin between them. In it go `fields`: a number or
-//!   content, `entire`: parts that are taken at once, and `nodes`: those that end and begin; `onward`: how it goes on.
+//! - `turns`: complete parts, and nodes that end and begin between them. In it go `flat`: flat parts, `fixed_size`:
+//!   parts of kinds with one size, and `opening`: nodes that end and begin; `onward`: how it goes on.
 //! - `settling`: how reading goes on after what was taken.
+//!
+//! A unit's way, and why each way stands beside the machine. Of an entry of READDIRPLUS the flag is taken by
+//! take_opening, and the structure behind it begins by enter_first. Its fileid, its name and its cookie go by
+//! take_flat, the flag of its attributes by take_opening again, and these by take_fixed_size.
+//!
+//! ```text
+//! take_piece
+//! ├─ wake                        nothing has begun: what takes no byte begins
+//! ├─ take_byte                   a unit has begun, or its bytes are not all here: input is cut anywhere
+//! │  └─ take                     a unit, by the machine, which refuses what is no value at its place
+//! └─ take_units                  by what the bytes are awaited for
+//!    ├─ take_next                a part
+//!    │  ├─ take_run              numbers of an array: each took a turn of the machine
+//!    │  └─ take_first_unit       another part, by its first unit: each piece begins so, before the loop
+//!    │     └─ take_complete_content   content behind its length: it is copied at once
+//!    │        └─ take_complete   with eight bytes or more the loop; with fewer, the machine
+//!    │           └─ take_turns   a turn for each sort of part, as long as they are complete
+//!    │              ├─ Flat: take_flat         the node at work stays in variables from part to part
+//!    │              ├─ Numbers: take_numbers   their list has space at once; many hyper integers go by take_hypers
+//!    │              ├─ FixedSize: take_fixed_size   no node is opened for it; where it is no value, as Bare
+//!    │              ├─ Bare: enter_first       nodes that begin together, and in none of them a value is looked for
+//!    │              │  └─ take_flat            their first parts
+//!    │              ├─ Nested: take_nested     what is neither flat nor bare
+//!    │              │  ├─ take_opening         a flag, a count or a discriminant: nothing is settled behind it
+//!    │              │  └─ enter_part           a void
+//!    │              ├─ no part: leave_nodes    nodes that have all their parts end
+//!    │              └─ cut, or no value: begin_next   the part is begun, and awaited from then on
+//!    │                 ├─ take_length          content: its kind is known there
+//!    │                 └─ take                 another part, which is refused there if it is no value
+//!    ├─ take_content             content that has begun: it is cut, and goes on with each piece
+//!    └─ take_begun               a hyper integer that has begun, or the last unit of content
+//!       ├─ take_hypers           and more of an array: each took a turn of the machine for each unit
+//!       ├─ take_hyper            one, of which both units are here
+//!       └─ take                  a unit, where that is all
+//! ```
+//!
+//! What a way brought stands in docs/PERF.md.
 ghost use Rattle.xdr_stream.specs.Frames.{left_of};
 ghost use Rattle.xdr_stream.specs.Private.OneProof.{one_sound, one_wait};
 ghost use Rattle.xdr_stream.specs.Private.Sound.{IsSoundAt, Waits};
 
 pub(crate) mod due;
-pub(crate) mod entire;
-pub(crate) mod fields;
+pub(crate) mod fixed_size;
+pub(crate) mod flat;
 pub(crate) mod many;
-pub(crate) mod nodes;
 pub(crate) mod onward;
+pub(crate) mod opening;
 pub(crate) mod parts;
 pub(crate) mod pieces;
 pub(crate) mod settling;
 pub(crate) mod start;
-pub(crate) mod steps;
+pub(crate) mod turns;
 
 use crate::fault::DecodeFault;
 use crate::machine::Awaits;

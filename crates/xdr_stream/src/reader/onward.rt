@@ -1,11 +1,11 @@
-//! How it goes on after a step over what is there whole.
+//! How it goes on after a turn over complete parts.
 
-/// How it goes on after a step.
+/// How it goes on after a turn.
 #[derive(Clone, Copy)]
 pub enum Onward {
     /// With what comes next.
     Next,
-    /// With the part that comes next, which is not there whole, or is no value: it is begun, and its parts are tried.
+    /// With the part that comes next, which is not complete, or is no value: it is begun, and its parts are tried.
     Begin,
     /// In no such way: the machine takes what comes next, unit by unit.
     Stop,
@@ -18,7 +18,7 @@ impl Onward {
         if goes_on { Onward::Next } else { Onward::Stop }
     }
 
-    /// Whether a step follows.
+    /// Whether a turn follows.
     #[inline(always)]
     pub(crate) fn goes_on(self) -> bool {
         match self {

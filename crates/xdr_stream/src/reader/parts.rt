@@ -1,4 +1,4 @@
-//! What comes first at a part: numbers, a part or content that is there whole, or a unit.
+//! What comes first at a part: numbers, a complete part or complete content, or a unit.
 ghost use Rattle.std.specs.Prelude.{◌≡◌, ◌≤◌, ◌<◌, ℕ, List, ◌++◌, length, take};
 ghost use Rattle.xdr_stream.specs.Frames.{left_of, stack_of};
 ghost use Rattle.xdr_stream.specs.Sees.{Sees};
@@ -12,16 +12,15 @@ use crate::builder::Build;
 use crate::fault::Reason;
 use crate::machine::Awaits;
 use crate::machine::unit::{are_zeros, take_unit, unit_at};
+use crate::peek::run::run_due;
+use crate::peek::{peek_padded, peek_units};
 use crate::reader::{Reader, State};
-use crate::runs::numbers::run_due;
-use crate::runs::{units_there, whole_there};
 
 impl<'s, B: Build + Drop> Reader<'s, B> {
-    /// Takes what comes first at a part: a run of numbers, parts or content that are there whole, or a unit; tells how
-    /// many bytes.
+    /// Takes what comes first at a part: a run of numbers, complete parts or content, or a unit; tells how many bytes.
     #[inline(always)]
     pub(crate) fn take_next(&mut self, bytes: &[u8]) -> usize
-        requires there { 4 ≤ length bytes.now }
+        requires here { 4 ≤ length bytes.now }
         requires awaited { IsAwaited self.old.schema.now.kinds (left_of self.old.work) Next }
         ensures represents { (b : List ℕ) → self.old.state ≡ Reading Next → self.old.pending ≡ 0
             → RepresentsBytes B.spares B.reports self.old b
@@ -33,20 +32,20 @@ impl<'s, B: Build + Drop> Reader<'s, B> {
     {
         if let Some(run) = run_due(self.schema, self.work) {
             let space = (self.limits.bytes() as usize).saturating_sub(self.read);
-            let n = units_there(run.left as usize * 4, bytes.len(), space);
+            let n = peek_units(run.left as usize * 4, bytes.len(), space);
             if n > 4 {
                 self.take_run(run, run.left - ((n / 4) as u32 - 1), n, bytes);
                 return n;
             }
         }
-        self.take_part(bytes)
+        self.take_first_unit(bytes)
     }
 
-    // Takes the unit that comes first at a part, and the content behind it where all of it is there, and tells how many
+    // Takes the unit that comes first at a part, and the content behind it where that is complete, and tells how many
     // bytes.
     #[inline(always)]
-    fn take_part(&mut self, bytes: &[u8]) -> usize
-        requires there { 4 ≤ length bytes.now }
+    fn take_first_unit(&mut self, bytes: &[u8]) -> usize
+        requires here { 4 ≤ length bytes.now }
         requires awaited { IsAwaited self.old.schema.now.kinds (left_of self.old.work) Next }
         ensures represents { (b : List ℕ) → self.old.state ≡ Reading Next → self.old.pending ≡ 0
             → RepresentsBytes B.spares B.reports self.old b
@@ -70,7 +69,7 @@ impl<'s, B: Build + Drop> Reader<'s, B> {
         ) {
             Ok(awaits) => {
                 self.read = self.read.saturating_add(4);
-                4 + self.take_whole(awaits, &bytes[4..])
+                4 + self.take_complete_content(awaits, &bytes[4..])
             }
             Err(why) => {
                 self.fail(why);
@@ -79,10 +78,10 @@ impl<'s, B: Build + Drop> Reader<'s, B> {
         }
     }
 
-    // Takes content that comes next where all of it and its padding are there, and then the parts that are there whole,
-    // and begins what comes next; tells how many bytes.
+    // Takes content that comes next where it is complete with its padding, and then the complete parts, and begins what
+    // comes next; tells how many bytes.
     #[inline(always)]
-    fn take_whole(&mut self, awaits: Awaits, bytes: &[u8]) -> usize
+    fn take_complete_content(&mut self, awaits: Awaits, bytes: &[u8]) -> usize
         requires { self.old.state ≡ Fresh }
         ensures represents { (q : List ℕ) → length q ≡ self.old.read → self.old.pending ≡ 0 → IsLive awaits
             → Sees self.old.schema.now.kinds self.old.kind.place self.old.limits (B.reports self.old.built) awaits
@@ -96,12 +95,12 @@ impl<'s, B: Build + Drop> Reader<'s, B> {
         let _in_range = self.limits.depth();
         if let Awaits::Content(size) = awaits {
             let space = (self.limits.bytes() as usize).saturating_sub(self.read);
-            let n = whole_there(size, bytes.len(), space);
+            let n = peek_padded(size, bytes.len(), space);
             if n > 0 && are_zeros(&bytes[size as usize..n]) {
-                match self.built.whole(&bytes[..size as usize]) {
+                match self.built.complete_content(&bytes[..size as usize]) {
                     Ok(()) => {
                         self.read = self.read.saturating_add(n);
-                        return n + self.take_settled(&bytes[n..]);
+                        return n + self.take_complete(&bytes[n..]);
                     }
                     Err(_) => {
                         self.fail(Reason::NoMemory);
@@ -111,7 +110,7 @@ impl<'s, B: Build + Drop> Reader<'s, B> {
             }
         }
         if let Awaits::Next = awaits {
-            return self.take_settled(bytes);
+            return self.take_complete(bytes);
         }
         self.settle(awaits);
         0

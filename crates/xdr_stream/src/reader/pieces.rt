@@ -12,9 +12,9 @@ use crate::builder::Build;
 use crate::fault::DecodeFault;
 use crate::machine::Awaits;
 use crate::machine::unit::unit_at;
+use crate::peek::run::hypers_due;
+use crate::peek::{peek_hypers, peek_units};
 use crate::reader::{Progress, Reader, State};
-use crate::runs::numbers::hypers_due;
-use crate::runs::{hypers_there, units_there};
 
 // A unit with its last byte.
 fn with_last(unit: [u8; 4], byte: u8) -> [u8; 4]
@@ -98,7 +98,7 @@ impl<'s, B: Build + Drop> Reader<'s, B> {
 
     // Takes whole units of a piece that has some, where no unit is unfinished, and tells how many bytes.
     fn take_units(&mut self, awaits: Awaits, bytes: &[u8]) -> usize
-        requires there { 4 ≤ length bytes.now }
+        requires here { 4 ≤ length bytes.now }
         requires awaited { IsAwaited self.old.schema.now.kinds (left_of self.old.work) awaits }
         ensures represents { (b : List ℕ) → self.old.state ≡ Reading awaits → self.old.pending ≡ 0
             → RepresentsBytes B.spares B.reports self.old b
@@ -113,20 +113,20 @@ impl<'s, B: Build + Drop> Reader<'s, B> {
         }
         if let Awaits::Content(left) = awaits {
             let space = (self.limits.bytes() as usize).saturating_sub(self.read);
-            let n = units_there(left as usize + 3, bytes.len(), space);
+            let n = peek_units(left as usize + 3, bytes.len(), space);
             if n > 4 {
                 self.take_content(left - (n - 4) as u32, n, bytes);
                 return n;
             }
         }
-        self.take_first(awaits, bytes)
+        self.take_begun(awaits, bytes)
     }
 
     // Takes the unit that comes first, or the hyper integer that begins with it, or all of an array; tells how many
     // bytes.
     #[inline(always)]
-    fn take_first(&mut self, awaits: Awaits, bytes: &[u8]) -> usize
-        requires there { 4 ≤ length bytes.now }
+    fn take_begun(&mut self, awaits: Awaits, bytes: &[u8]) -> usize
+        requires here { 4 ≤ length bytes.now }
         requires awaited { IsAwaited self.old.schema.now.kinds (left_of self.old.work) awaits }
         ensures represents { (b : List ℕ) → self.old.state ≡ Reading awaits → self.old.pending ≡ 0
             → RepresentsBytes B.spares B.reports self.old b
@@ -139,7 +139,7 @@ impl<'s, B: Build + Drop> Reader<'s, B> {
         if let Awaits::Wide(signed) = awaits {
             let space = (self.limits.bytes() as usize).saturating_sub(self.read);
             if let Some(run) = hypers_due(self.schema, self.work, signed) {
-                let n = hypers_there(run.left as usize * 8, bytes.len(), space);
+                let n = peek_hypers(run.left as usize * 8, bytes.len(), space);
                 if n > 0 && self.parents.len() < self.limits.depth() as usize {
                     self.take_hypers(run, run.left - (n / 8) as u32, n, bytes);
                     return n;

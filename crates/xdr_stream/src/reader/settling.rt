@@ -12,7 +12,7 @@ ghost use Rattle.xdr_stream.specs.declared.reader.State.TheVariants.{Fresh};
 
 use crate::builder::Build;
 use crate::fault::{DecodeFault, Reason};
-use crate::machine::coming::settle;
+use crate::machine::coming::settle_nodes;
 use crate::machine::unit::take_unit;
 use crate::machine::{Awaits, reason_of};
 use crate::reader::{Reader, State};
@@ -31,7 +31,7 @@ impl<'s, B: Build + Drop> Reader<'s, B> {
         ensures same { IsSame self.old self.new }
     {
         match awaits {
-            Awaits::Next => match settle(
+            Awaits::Next => match settle_nodes(
                 self.schema,
                 self.limits,
                 &mut self.work,

@@ -1,6 +1,6 @@
 -- What is due after the items that a checker was given, and what taking the next brings.
-use Rattle.std.specs.Prelude.{◌≡◌, ℕ, ◌-◌, ◌%◌, List, [], ◌∷◌, ◌++◌, length, Result, Ok, Err, OnOk, ⊤}
-use Rattle.xdr_types.specs.Kinds.{KindView}
+use Rattle.std.specs.Prelude.{◌≡◌, ℕ, ◌-◌, ◌%◌, ◌≤◌, List, [], ◌∷◌, ◌++◌, length, Result, Ok, Err, OnOk, ⊤, true}
+use Rattle.xdr_types.specs.Kinds.{KindView, Lists}
 use Rattle.xdr_types.specs.Tree.{Tree}
 use Rattle.xdr_types.specs.Within.{Bounds}
 use Rattle.xdr_types.specs.Outcome.{Outcome, Pending, Whole}
@@ -14,6 +14,7 @@ use Rattle.xdr_writer.specs.Represents.{Begin}
 use Rattle.xdr_writer.specs.Answers.{Takes, Refuses, IsOfBytes}
 use Rattle.xdr_writer.specs.Private.Judged.{IsSound}
 use Rattle.xdr_writer.specs.Private.Runs.{IsRun}
+use Rattle.xdr_writer.specs.declared.runs.Known.{Known}
 use Rattle.xdr_writer.specs.declared.runs.Run.{Run}
 use Rattle.xdr_writer.specs.declared.refusal.Why.{Why}
 use Rattle.xdr_writer.specs.declared.refusal.Why.TheVariants as why
@@ -44,6 +45,13 @@ pub record FindsDue (c d : Checker) (r : Result Due Why) : Type 0 where
 pub record IsAfter (c : Checker) (is : List NodeItem) : Type 0 where
   pub bytes : checks.RepresentsBytes c (all_spelled is)
   pub begin : Begin (checks.kinds_of c) (checks.kind_of c).place is
+
+-- an item can be taken where there is so much space: what is known of what is due holds of the checker
+pub record CanTake (c : Checker) (lists : Lists) (known : Known) (space : ℕ) : Type 0 where
+  pub schema : checks.schema_of c ≡ lists
+  pub units : (checks.limits_of c).bytes % 4 ≡ 0
+  pub low : space ≤ 16777216
+  pub waiting : known.waits ≡ true → (checks.IsWaiting c → ⊥) → ⊥
 
 -- what a call that takes an item says and leaves
 pub record TookItem (c d : Checker) (is : List NodeItem) (i : ItemView) (before after : List ℕ) (s : Step)

@@ -8,13 +8,13 @@ returns-clause-value c =
     let K = c.args.schema.now.kinds in
     let k = c.args.kind.place in
     let input = c.args.input.now in
-    IfOk-weaker c.outcome_of.result _ _
+    IfOk-weaker c.judge.result _ _
     (λ n o.
     let w = whole K k c.args.limits c.depth-in_range.ensures.range.units input o.0 n o.1 in (o.0, w.0, w.1, w.2))
-    c.outcome_of.ensures.whole
+    c.judge.ensures.whole
 
 pub returns-clause-place : goal.returns-clause-place
 returns-clause-place c =
-    IfErr-weaker c.outcome_of.result _ _
+    IfErr-weaker c.judge.result _ _
     (λ f e. (refused c.args.schema.now.kinds c.args.kind.place c.args.limits c.depth-in_range.ensures.range.units f
-    c.args.input.now e).1) c.outcome_of.ensures.fault
+    c.args.input.now e).1) c.judge.ensures.fault

@@ -11,8 +11,8 @@ kind-kind-requires g c = record {
       c.in-Some.ensures;
 }
 
-pub take_made-requires : goal.take_made-requires
-take_made-requires g c = record {
+pub take_number_of_kind-requires : goal.take_number_of_kind-requires
+take_number_of_kind-requires g c = record {
   sound = c.requires.sound;
   first = c.in-Some.ensures;
   kind = c.kind-kind.ensures;

@@ -54,8 +54,8 @@ returns-then-not-are_zeros-clause-refused g c = λ ps fs. record {
   spared = λ limits kind q h. tt;
 }
 
-pub returns-in-Ok-whole-clause-taken : goal.returns-in-Ok-whole-clause-taken
-returns-in-Ok-whole-clause-taken g c = λ fs. record {
+pub returns-in-Ok-complete_content-clause-taken : goal.returns-in-Ok-complete_content-clause-taken
+returns-in-Ok-complete_content-clause-taken g c = λ fs. record {
   live = tt;
   taken = λ kind limits q ready small h.
       let H : Trace → Type 0 = g.B.Build.reports c.args.built.now in
@@ -69,16 +69,17 @@ returns-in-Ok-whole-clause-taken g c = λ fs. record {
       (take_all (4 - c.args.left) (drop c.args.left u) (omega (arith, length-drop c.args.left u, len))))
       ∙ sym c.if-not-are_zeros.ensures in
       last_content c.args.schema.now.kinds c.len-known.ensures.valued c.len-known.ensures.known kind limits
-      (With H HasSpace) (g.B.Build.reports c.whole.new.self) fs q u len are small
+      (With H HasSpace) (g.B.Build.reports c.complete_content.new.self) fs q u len are small
       c.args.left ready (omega (arith, c.if-left-gt4.false)) zeros
-      (λ a reported. c.in-Ok-whole.ensures.reported a reported.0 reported.1)
+      (λ a reported. c.in-Ok-complete_content.ensures.reported a reported.0 reported.1)
       (seen_space c.args.schema.now.kinds kind limits H (Content c.args.left) fs q tt h);
 }
 
-pub returns-in-Err-whole-clause-refused : goal.returns-in-Err-whole-clause-refused
-returns-in-Err-whole-clause-refused g c = λ ps fs. record {
+pub returns-in-Err-complete_content-clause-refused : goal.returns-in-Err-complete_content-clause-refused
+returns-in-Err-complete_content-clause-refused g c = λ ps fs. record {
   refused = λ kind limits q rest ready small h. tt;
   spared = λ limits kind q h free.
-      false≢true (c.in-Err-whole.ensures.granted (seen_content g.B.Build.spares c.args.schema.now.kinds kind free
+      false≢true (c.in-Err-complete_content.ensures.granted
+      (seen_content g.B.Build.spares c.args.schema.now.kinds kind free
       limits (g.B.Build.reports c.args.built.now) c.args.left ps fs q h));
 }

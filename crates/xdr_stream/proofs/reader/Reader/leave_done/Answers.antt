@@ -1,6 +1,6 @@
 use Rattle.std.proofs.Common.{subst}
 use Rattle.xdr_stream.specs.Frames.{stack_of}
-use Rattle.xdr_stream.specs.Private.Entire.{WentAs}
+use Rattle.xdr_stream.specs.Private.Complete.{WentAs}
 use Rattle.xdr_stream.specs.declared.reader.State.{State}
 use Rattle.xdr_stream.proofs.reader.Reader.leave_done.Goals as goal
 

@@ -1,6 +1,6 @@
 use Rattle.std.proofs.Common.{arith}
 use Rattle.xdr_stream.specs.Frames.{stack_of}
-use Rattle.xdr_stream.proofs.Entire.{went_awake}
+use Rattle.xdr_stream.proofs.Complete.{went_awake}
 use Rattle.xdr_stream.proofs.reader.Reader.leave_nodes.Goals as goal
 
 pub returns-in-Err-clause-went : goal.returns-in-Err-clause-went

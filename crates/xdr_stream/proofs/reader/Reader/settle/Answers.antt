@@ -14,7 +14,8 @@ pub returns-in-Ok-Some-clause-represents : goal.returns-in-Ok-Some-clause-repres
 returns-in-Ok-Some-clause-represents g c = λ q len none live h.
     let a = c.args.self.now in
     let s = subst (λ (o : Option Awaits). Settles a.schema.now.kinds a.kind.place a.limits
-    (g.B.Build.reports c.settle.new.built) (stack_of c.settle.new.work c.settle.new.parents.items) q o)
+    (g.B.Build.reports c.settle_nodes.new.built)
+    (stack_of c.settle_nodes.new.work c.settle_nodes.new.parents.items) q o)
     c.in-Ok-Some.field-0-is (c.in-Ok-Some.ensures.follows a.kind.place q (rw c.in-Next.is at h)) in
     c.go_on.ensures.represents q len none s.0 s.1
 
@@ -22,7 +23,8 @@ pub returns-in-Ok-None-clause-represents : goal.returns-in-Ok-None-clause-repres
 returns-in-Ok-None-clause-represents g c = λ q len none live h.
     let a = c.args.self.now in
     let s = subst (λ (o : Option Awaits). Settles a.schema.now.kinds a.kind.place a.limits
-    (g.B.Build.reports c.settle.new.built) (stack_of c.settle.new.work c.settle.new.parents.items) q o)
+    (g.B.Build.reports c.settle_nodes.new.built)
+    (stack_of c.settle_nodes.new.work c.settle_nodes.new.parents.items) q o)
     c.in-Ok-None.field-0-is (c.in-Ok-None.ensures.follows a.kind.place q (rw c.in-Next.is at h)) in
     c.end.ensures.represents q len s.0 s.1
 

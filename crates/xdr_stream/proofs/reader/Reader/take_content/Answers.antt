@@ -21,7 +21,7 @@ returns-in-Ok-clause-represents g c = λ b left sum state none space st.
     (g.B.Build.reports a.built) (stack_of a.work a.parents.items) a.read a.unit a.pending x b) state st in
     let m : ℕ = c.args.n - 4 in
     let u : List ℕ = take m c.args.bytes.now in
-    let size : length u ≡ m = omega (arith, length-take m c.args.bytes.now, c.requires.there) in
+    let size : length u ≡ m = omega (arith, length-take m c.args.bytes.now, c.requires.here) in
     let units : length u % 4 ≡ 0 = omega (arith, size, c.requires.units, c.requires.some) in
     let are : are_bytes u ≡ true = bytes_taken m c.args.bytes.now (λ i. omega (arith, c.type_inv.bytes i)) in
     let less : length u < left = omega (arith, size, sum, c.requires.last, c.requires.some) in

@@ -14,8 +14,8 @@ returns-in-Next-clause-represents g c = λ q len none h ready room.
     let is : num4 (pos c.number_of.result) ≡ u = c.number_of.ensures in
     let size : length u ≡ 4 = ap (λ (b : List ℕ). length b) (sym is) in
     let next = subst (λ (x : List ℕ). Sees a.schema.now.kinds a.kind.place a.limits
-    (g.B.Build.reports c.take_made.new.built) c.in-Ok.awaits
-    (stack_of c.take_made.new.work c.take_made.new.parents.items) (q ++ x)) is
+    (g.B.Build.reports c.take_number_of_kind.new.built) c.in-Ok.awaits
+    (stack_of c.take_number_of_kind.new.work c.take_number_of_kind.new.parents.items) (q ++ x)) is
     (c.in-Ok.ensures.taken a.kind.place a.limits q ready (λ full. room (sym len ∙ full)) h) in
     let most : length q ≤ a.limits.bytes =
     within_limit a.schema.now.kinds a.kind.place a.limits _ q c.depth-in_range.ensures.range.units h.reading in
@@ -29,8 +29,9 @@ returns-in-Next-clause-represents g c = λ q len none h ready room.
       c.saturating_add-self.ensures,
     ) in
     c.settle_next.ensures.represents (q ++ u) far none
-    (subst (λ (o : Awaits). Sees a.schema.now.kinds a.kind.place a.limits (g.B.Build.reports c.take_made.new.built) o
-    (stack_of c.take_made.new.work c.take_made.new.parents.items) (q ++ u)) c.in-Next.is next)
+    (subst (λ (o : Awaits). Sees a.schema.now.kinds a.kind.place a.limits
+    (g.B.Build.reports c.take_number_of_kind.new.built) o
+    (stack_of c.take_number_of_kind.new.work c.take_number_of_kind.new.parents.items) (q ++ u)) c.in-Next.is next)
 
 pub returns-in_default-clause-represents : goal.returns-in_default-clause-represents
 returns-in_default-clause-represents g c = λ q len none h ready room.
@@ -39,8 +40,8 @@ returns-in_default-clause-represents g c = λ q len none h ready room.
     let is : num4 (pos c.number_of.result) ≡ u = c.number_of.ensures in
     let size : length u ≡ 4 = ap (λ (b : List ℕ). length b) (sym is) in
     let next = subst (λ (x : List ℕ). Sees a.schema.now.kinds a.kind.place a.limits
-    (g.B.Build.reports c.take_made.new.built) c.in-Ok.awaits
-    (stack_of c.take_made.new.work c.take_made.new.parents.items) (q ++ x)) is
+    (g.B.Build.reports c.take_number_of_kind.new.built) c.in-Ok.awaits
+    (stack_of c.take_number_of_kind.new.work c.take_number_of_kind.new.parents.items) (q ++ x)) is
     (c.in-Ok.ensures.taken a.kind.place a.limits q ready (λ full. room (sym len ∙ full)) h) in
     let most : length q ≤ a.limits.bytes =
     within_limit a.schema.now.kinds a.kind.place a.limits _ q c.depth-in_range.ensures.range.units h.reading in

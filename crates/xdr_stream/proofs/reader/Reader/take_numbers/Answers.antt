@@ -8,14 +8,14 @@ use Rattle.xdr_stream.specs.Frames.{left_of, onto, stack_of}
 use Rattle.xdr_stream.specs.Trace.{Trace}
 use Rattle.xdr_stream.specs.Sees.{Sees}
 use Rattle.xdr_stream.specs.Private.Sound.{IsSoundAt, Waits}
-use Rattle.xdr_stream.specs.Private.Entire.{WentAs}
+use Rattle.xdr_stream.specs.Private.Complete.{WentAs}
 use Rattle.xdr_stream.specs.Private.Reported.{TakesMany}
 use Rattle.xdr_stream.specs.declared.machine.frame.Frame.{Frame}
 use Rattle.xdr_stream.specs.declared.machine.frame.Frame.TheVariants.{Items}
 use Rattle.xdr_stream.specs.declared.machine.Awaits.TheVariants.{Next}
 use Rattle.xdr_stream.specs.declared.reader.State.{State}
 use Rattle.xdr_stream.proofs.BuiltContent.{With, seen_many}
-use Rattle.xdr_stream.proofs.Entire.{went_awake}
+use Rattle.xdr_stream.proofs.Complete.{went_awake}
 use Rattle.xdr_stream.proofs.Frames.{onto_length}
 use Rattle.xdr_stream.proofs.Running.{many_numbers, sound_numbers}
 use Rattle.xdr_stream.proofs.Sparing.{seen_few}
@@ -28,10 +28,10 @@ invariant_of-self g c =
     let s : List KindView = a.schema.now.kinds in
     let due = c.in-Some.ensures in record {
       sound = sound_numbers s c.in-Some.due.item c.in-Some.due.signed c.in-Some.due.left
-          (c.in-Some.due.left - c.units_there-n.result / 4) a.parents.items due.kind due.known
+          (c.in-Some.due.left - c.peek_units-n.result / 4) a.parents.items due.kind due.known
           (subst (λ (w : Frame). IsSoundAt s w a.parents.items) due.node a.sound);
       waits = subst (λ (x : State). Waits s (left_of (Items c.in-Some.due.item
-          (c.in-Some.due.left - c.units_there-n.result / 4))) x) (sym c.requires) tt;
+          (c.in-Some.due.left - c.peek_units-n.result / 4))) x) (sym c.requires) tt;
     }
 
 pub returns-in-Ok-clause-went : goal.returns-in-Ok-clause-went
@@ -40,23 +40,23 @@ returns-in-Ok-clause-went g c = λ q len none seen.
     let s : List KindView = a.schema.now.kinds in
     let run = c.in-Some.due in
     let due = c.in-Some.ensures in
-    let n : ℕ = c.units_there-n.result in
+    let n : ℕ = c.peek_units-n.result in
     let u : List ℕ = take n c.args.bytes.now in
-    let size : length u ≡ n = omega (arith, length-take n c.args.bytes.now, c.units_there-n.ensures.there) in
+    let size : length u ≡ n = omega (arith, length-take n c.args.bytes.now, c.peek_units-n.ensures.here) in
     let are : are_bytes u ≡ true = bytes_taken n c.args.bytes.now (λ i. omega (arith, c.type_inv.bytes i)) in
     let space : length q + length u ≤ a.limits.bytes = omega (
       arith,
       size,
       len,
-      c.units_there-n.ensures.space,
+      c.peek_units-n.ensures.space,
       c.saturating_sub-space.ensures,
       c.bytes.ensures,
       c.if-n-eq0.false,
     ) in
     let m : ℕ = n / 4 in
     let rest : ℕ = run.left - m in
-    let count : length u ≡ 4 * m = omega (arith, size, c.units_there-n.ensures.units) in
-    let sum : run.left ≡ m + rest = omega (arith, c.units_there-n.ensures.left) in
+    let count : length u ≡ 4 * m = omega (arith, size, c.peek_units-n.ensures.units) in
+    let sum : run.left ≡ m + rest = omega (arith, c.peek_units-n.ensures.left) in
     let two : 2 ≤ length (replicate run.left (item_part run.item.place)) =
     omega (arith, length-replicate run.left (item_part run.item.place), c.if-due-lt2.false) in
     let here = subst (λ (w : Frame). Sees s a.kind.place a.limits (g.B.Build.reports a.built) Next
@@ -98,7 +98,7 @@ returns-in-Err-clause-went g c = λ q len none seen.
     let H : Trace → Type 0 = g.B.Build.reports a.built in
     let due = c.in-Some.ensures in
     let run = c.in-Some.due in
-    let n : ℕ = c.units_there-n.result in
+    let n : ℕ = c.peek_units-n.result in
     let f = c.fail.new.self in
     let two : 2 ≤ length (left_of a.work) = subst (λ (w : Frame). 2 ≤ length (left_of w)) (sym due.node)
     (omega (arith, length-replicate run.left (item_part run.item.place), c.if-due-lt2.false)) in

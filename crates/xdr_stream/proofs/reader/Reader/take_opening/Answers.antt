@@ -3,7 +3,7 @@ use Rattle.std.proofs.lemmas.List.{length-append}
 use Rattle.xdr_stream.specs.Frames.{stack_of}
 use Rattle.xdr_stream.specs.Sees.{Sees, Ends}
 use Rattle.xdr_units.specs.Numbers.{num4}
-use Rattle.xdr_stream.proofs.Entire.{went_awake}
+use Rattle.xdr_stream.proofs.Complete.{went_awake}
 use Rattle.xdr_stream.proofs.Standing.{within_limit}
 use Rattle.xdr_stream.proofs.reader.Reader.take_opening.Goals as goal
 
@@ -16,8 +16,8 @@ returns-in_default g c = record {
       let is : num4 (pos c.number_of.result) ≡ u = c.number_of.ensures in
       let size : length u ≡ 4 = ap (λ (b : List ℕ). length b) (sym is) in
       let next = subst (λ (x : List ℕ). Sees a.schema.now.kinds a.kind.place a.limits
-      (g.B.Build.reports c.take_made.new.built) c.in-Ok.awaits
-      (stack_of c.take_made.new.work c.take_made.new.parents.items) (q ++ x)) is
+      (g.B.Build.reports c.take_number_of_kind.new.built) c.in-Ok.awaits
+      (stack_of c.take_number_of_kind.new.work c.take_number_of_kind.new.parents.items) (q ++ x)) is
       (c.in-Ok.ensures.taken a.kind.place a.limits q ready (λ full. room (sym len ∙ full)) h) in
       let most : length q ≤ a.limits.bytes =
       within_limit a.schema.now.kinds a.kind.place a.limits _ q c.depth-in_range.ensures.range.units h.reading in

@@ -48,7 +48,7 @@ returns-in-Ok-clause-represents g c = λ b state none space st.
     (g.B.Build.reports a.built) (stack_of a.work a.parents.items) a.read a.unit a.pending x b) state st in
     let m : ℕ = c.args.n - 4 in
     let u : List ℕ = take m c.args.bytes.now in
-    let size : length u ≡ m = omega (arith, length-take m c.args.bytes.now, c.requires.there) in
+    let size : length u ≡ m = omega (arith, length-take m c.args.bytes.now, c.requires.here) in
     let are : are_bytes u ≡ true = bytes_taken m c.args.bytes.now (λ i. omega (arith, c.type_inv.bytes i)) in
     let fits : length s.0 + length u ≤ a.limits.bytes = omega (arith, size, s.2, space, c.requires.some) in
     let seen = subst (λ (w : Frame). Sees a.schema.now.kinds a.kind.place a.limits (g.B.Build.reports a.built) Next

@@ -1,7 +1,7 @@
 use Rattle.std.proofs.Common.{◌≤◌, ◌+◌, ◌∙◌, List, ℕ, length, take, drop, ap, sym, subst, arith}
 use Rattle.std.proofs.lemmas.List.{take_all}
 use Rattle.xdr_types.specs.Tree.{Head}
-use Rattle.xdr_stream.specs.Private.Runs.{hypers_in}
+use Rattle.xdr_stream.specs.Private.NumbersReported.{hypers_in}
 use Rattle.xdr_stream.specs.Trace.{Trace}
 use Rattle.xdr_stream.specs.Private.Reported.{leaf_in}
 use Rattle.xdr_stream.specs.Values.{Reports}
@@ -29,4 +29,4 @@ returns c = λ t reported many.
     let us : List ℕ = c.args.units.now in
     subst (λ (x : List ℕ). Reports c.loop-at.self (hypers_in c.args.signed x t))
     (take_all c.loop-at.at us (omega (arith, c.loop-at-test.false))) (c.loop-at.invariant.2 t
-    (c.in_ok-make_room.ensures t reported) many)
+    (c.in_ok-reserve_items.ensures t reported) many)

@@ -1,5 +1,5 @@
 use Rattle.std.proofs.Common.{◌≡◌, ◌-◌, ◌%◌, ◌≤◌, length, take}
-use Rattle.xdr_stream.specs.Private.Runs.{hypers_in}
+use Rattle.xdr_stream.specs.Private.NumbersReported.{hypers_in}
 use Rattle.xdr_stream.specs.Trace.{Trace}
 use Rattle.xdr_stream.specs.Private.Reported.{TakesMany}
 use Rattle.xdr_stream.specs.Values.{Reports}

@@ -1,5 +1,5 @@
 use Rattle.std.proofs.Common.{◌≡◌, ◌-◌, ◌%◌, ◌≤◌, length, take}
-use Rattle.xdr_stream.specs.Private.Runs.{numbers_in}
+use Rattle.xdr_stream.specs.Private.NumbersReported.{numbers_in}
 use Rattle.xdr_stream.specs.Values.{trace_of}
 use Rattle.xdr_stream.proofs.builder.values.ValuesBuild.numbers.Given as goal
 
