@@ -16,7 +16,7 @@ use Rattle.xdr_codec.specs.Checks.{RepresentsBytes, HasOutcome, IsSame}
 use Rattle.xdr_codec.specs.declared.checker.Checker.{Checker}
 use Rattle.oncrpc_answers.specs.declared.answer.Answer.TheVariants as answer
 use Rattle.oncrpc_tasks.specs.declared.judge.Verdict.TheVariants.{Open, Settled}
-use Rattle.oncrpc_tasks.specs.Private.Judged.{Follows, Says}
+use Rattle.oncrpc_tasks.specs.Private.Judged.{Follows, Says, WasFed}
 use Rattle.oncrpc_tasks.specs.declared.question.Form.TheVariants as form
 use Rattle.oncrpc_tasks.specs.Right as right
 use Rattle.oncrpc_tasks.specs.Right.{Question}
@@ -97,3 +97,14 @@ module _ (q : Question) (c d : Checker) (b piece : List ℕ) (f : Follows q c b)
       → Says q d (b ++ piece) (Settled (answer.Refused e))
   refused e known h = λ rest.
       refused_for_all q units (b ++ piece) rest e (outcome_of (Err e) (Err e) refl h) known
+
+-- what a call of the checker says of a piece
+pub was_fed : (before after : Checker) (bytes piece : List ℕ) (r : Result Progress DecodeFault)
+    → RepresentsBytes after (bytes ++ taken piece r) → HasOutcome before bytes piece r
+    → IfOk r (λ p. used_of p ≤ length piece) → IsSame before after → WasFed before after bytes piece r
+was_fed before after bytes piece r represents outcome used same = record {
+  represents = represents;
+  outcome = outcome;
+  used = used;
+  same = same;
+}

@@ -4,7 +4,7 @@ ghost use Rattle.std.specs.Prelude.{IfErr, OnOk};
 ghost use Rattle.xdr_types.specs.Within.{AreBounds};
 ghost use Rattle.oncrpc_tasks.specs.Right as right;
 ghost use Rattle.oncrpc_tasks.specs.Right.{IsKnown, IsRight, IsRightFor, asked_of};
-ghost use Rattle.oncrpc_tasks.specs.Private.Judged.{Follows, IsRetained, Says, keeps_of, unshown};
+ghost use Rattle.oncrpc_tasks.specs.Private.Judged.{Follows, IsRetained, Says, WasFed, keeps_of, unshown};
 ghost use Rattle.oncrpc_tasks.specs.Private.Reading.{EndsReading, ReadsInput};
 
 use super::question::{Form, Question};
@@ -22,14 +22,19 @@ enum Verdict {
     Settled(Answer),
 }
 
-/// Feeds a piece after `count` bytes.
-fn judge_piece(checker: &mut Checker, count: usize, piece: &[u8]) -> Result<Verdict, Failure>
+/// What a checker's answer to a piece says, which came after `count` bytes.
+fn verdict_of(
+    fed: Result<Progress, DecodeFault>,
+    count: usize,
+    piece: &[u8],
+) -> Result<Verdict, Failure>
     requires { count ≤ 16777216 }
-    ensures says { IfOk result (λ v. (q : right.Question) (bytes : List ℕ) → Follows q checker.old bytes
-        → AreBounds q.limits.depth q.limits.bytes → count ≡ length bytes → Says q checker.new (bytes ++ piece.now) v) }
+    ensures says { IfOk result (λ v. (q : right.Question) (before after : Checker) (bytes : List ℕ)
+        → Follows q before bytes → AreBounds q.limits.depth q.limits.bytes → count ≡ length bytes
+        → WasFed before after bytes piece.now fed → Says q after (bytes ++ piece.now) v) }
     ensures memory { IfErr result (λ f. f ≡ Failure.NoMemory) }
 {
-    match checker.feed(piece) {
+    match fed {
         Ok(Progress::More) => Ok(Verdict::Open(Answer::Refused(DecodeFault {
             why: Reason::Truncated,
             at: count + piece.len(),
@@ -62,7 +67,7 @@ pub fn judge_bytes(alloc: Global, question: &Question, bytes: &[u8]) -> Result<A
     // The range of the limits, for the proof.
     let _in_range = limits.depth();
     let mut checker = Checker::start(alloc, schema, kind, limits);
-    let verdict = judge_piece(&mut checker, 0, bytes)?;
+    let verdict = verdict_of(checker.feed(bytes), 0, bytes)?;
     match verdict {
         Verdict::Open(answer) => Ok(answer),
         Verdict::Settled(answer) => Ok(answer),
@@ -102,7 +107,7 @@ pub fn judge_over<I: Source>(
     let _in_range = limits.depth();
     let mut checker = Checker::start(alloc, schema, kind, limits);
     let mut retained = Vec::new(alloc);
-    let mut at_end = match judge_piece(&mut checker, 0, &[])? {
+    let mut at_end = match verdict_of(checker.feed(&[]), 0, &[])? {
         Verdict::Open(answer) => answer,
         Verdict::Settled(answer) => return Ok((answer, retained)),
     };
@@ -116,7 +121,7 @@ pub fn judge_over<I: Source>(
         if n == 0 {
             return Ok((at_end, retained));
         }
-        let verdict = judge_piece(&mut checker, count, &array[..n])?;
+        let verdict = verdict_of(checker.feed(&array[..n]), count, &array[..n])?;
         keep(&mut retained, question.form, &array[..n])?;
         at_end = match verdict {
             Verdict::Open(answer) => answer,

@@ -1,6 +1,6 @@
 //! How a task that needs no network is done.
 ghost use Rattle.std.specs.Prelude.{◌≡◌, ◌≤◌};
-ghost use Rattle.oncrpc_tasks.specs.Ends.{TaskEnds, WordsEnd, layout_in};
+ghost use Rattle.oncrpc_tasks.specs.Ends.{TaskEnds, layout_in};
 ghost use Rattle.oncrpc_tasks.specs.Sources.{FileFails};
 ghost use Rattle.oncrpc_tasks.specs.Tasks.{files_of};
 
@@ -10,7 +10,7 @@ use super::question::{Form, Question};
 use super::records::records_over;
 use super::target::target_of;
 use super::unusable::refuse;
-use oncrpc_answers::{Task, ValueTask};
+use oncrpc_answers::Task;
 use std::alloc::Global;
 use xdr_io::{Sink, Source};
 use xdr_json::Layout;
@@ -36,47 +36,14 @@ pub fn task_over<P: Opener, I: Source, O: Sink, F: Sink>(
         (record { taken = F.taken; lost = F.failures })
         input.old input.new output.old output.new faults.old faults.new result }
 {
-    match task {
-        Task::Check(what) => {
-            value_over(alloc, what, Form::Outcome, opener, input, output, faults)
+    let (what, form) = match task {
+        Task::Check(what) => (what, Form::Outcome),
+        Task::Show(what) => (what, Form::Lines),
+        Task::Json(json) => (&json.what, Form::Json(layout_of(json.indented))),
+        Task::Records(what) => {
+            return records_over(alloc, input, output, faults, what.limit, what.hex);
         }
-        Task::Show(what) => value_over(alloc, what, Form::Lines, opener, input, output, faults),
-        Task::Json(json) => {
-            let form = Form::Json(layout_of(json.indented));
-            value_over(alloc, &json.what, form, opener, input, output, faults)
-        }
-        Task::Records(what) => records_over(alloc, input, output, faults, what.limit, what.hex),
-    }
-}
-
-// How JSON is laid out.
-fn layout_of(indented: bool) -> Layout
-    ensures { result ≡ layout_in indented }
-{
-    if indented {
-        Layout::Indented
-    } else {
-        Layout::Compact
-    }
-}
-
-fn value_over<P: Opener, I: Source, O: Sink, F: Sink>(
-    alloc: Global,
-    what: &ValueTask,
-    form: Form,
-    opener: &mut P,
-    input: &mut I,
-    output: &mut O,
-    faults: &mut F,
-) -> u8
-    ensures known { result ≤ 4 }
-    ensures ends { WordsEnd (P.reported opener.old) what.now form
-        (FileFails P.Text.left P.Text.failures (P.reported opener.old) what.now.types.files.items
-        (P.failures opener.old) (P.failures opener.new))
-        (record { left = I.left; reads = I.reads; failures = I.failures; taken = O.taken; lost = O.failures })
-        (record { taken = F.taken; lost = F.failures })
-        input.old input.new output.old output.new faults.old faults.new result }
-{
+    };
     let target = match target_of(alloc, what, opener) {
         Ok(target) => target,
         Err(why) => return refuse(alloc, why, what, faults),
@@ -89,4 +56,15 @@ fn value_over<P: Opener, I: Source, O: Sink, F: Sink>(
         form,
     };
     answer_over(alloc, &question, input, output, faults)
+}
+
+// How JSON is laid out.
+fn layout_of(indented: bool) -> Layout
+    ensures { result ≡ layout_in indented }
+{
+    if indented {
+        Layout::Indented
+    } else {
+        Layout::Compact
+    }
 }

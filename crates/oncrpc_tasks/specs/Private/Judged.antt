@@ -1,7 +1,10 @@
 -- A value that is judged while its bytes come.
-use Rattle.std.specs.Prelude.{◌≡◌, ℕ, List, [], ◌++◌, Bool, true, false, Option}
+use Rattle.std.specs.Prelude.{◌≡◌, ◌≤◌, ℕ, List, [], ◌++◌, length, Bool, true, false, Option, Result, IfOk}
 use Rattle.std.specs.Io.KnownBytes.{Consumes}
-use Rattle.xdr_codec.specs.Checks.{RepresentsBytes}
+use Rattle.xdr_stream.specs.Represents.{taken, used_of}
+use Rattle.xdr_stream.specs.declared.fault.DecodeFault.{DecodeFault}
+use Rattle.xdr_stream.specs.declared.reader.Progress.{Progress}
+use Rattle.xdr_codec.specs.Checks.{RepresentsBytes, HasOutcome, IsSame}
 use Rattle.xdr_codec.specs.declared.checker.Checker.{Checker}
 use Rattle.oncrpc_answers.specs.declared.answer.Answer.{Answer}
 use Rattle.oncrpc_tasks.specs.declared.question.Form.{Form}
@@ -18,6 +21,13 @@ pub record Follows (q : Question) (checker : Checker) (bytes : List ℕ) : Type 
   pub place_is : checker.reader.kind.place ≡ q.place
   pub limits_are : checker.reader.limits ≡ q.limits
   pub lines : q.form ≡ form.Outcome
+
+-- A checker was given a piece behind these bytes, and answered this.
+pub record WasFed (before after : Checker) (bytes piece : List ℕ) (answer : Result Progress DecodeFault) : Type 0 where
+  pub represents : RepresentsBytes after (bytes ++ taken piece answer)
+  pub outcome : HasOutcome before bytes piece answer
+  pub used : IfOk answer (λ p. used_of p ≤ length piece)
+  pub same : IsSame before after
 
 -- What a checker's bytes say: an answer that is right if they are all, or one that is right whatever follows.
 abbrev pub Says : Question → Checker → (bytes : List ℕ) → Verdict → Type 0
