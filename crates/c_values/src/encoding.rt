@@ -1,15 +1,12 @@
 //! An encoding whose last content is not copied.
-ghost use Rattle.std.specs.Prelude.{◌≡◌, ◌+◌, ◌≤◌, ◌-◌, ◌^◌, ◌++◌, ℕ, List, [], length, take, drop, OnOk, IfOk};
-ghost use Rattle.std.specs.Prelude.{MatchBool, min};
+ghost use Rattle.std.specs.Prelude.{◌≡◌, ◌+◌, ◌≤◌, ◌-◌, ◌^◌, ◌++◌, [], length, take, drop, OnOk, MatchBool, min};
 ghost use Rattle.xdr_units.specs.Numbers.{pad};
-ghost use Rattle.xdr_writer.specs.Items.{ItemView};
-ghost use Rattle.xdr_writer.specs.Runs.{as_items};
-ghost use Rattle.xdr_filling.specs.Filled.{HasFilled, spelled_bytes, units};
+ghost use Rattle.xdr_filling.specs.Filled.{spelled_bytes};
 ghost use Rattle.c_answers.specs.Buffers.{AreAtFront, HasTooFew};
 ghost use Rattle.c_values.specs.Private.Encodings.{bytes_in};
 
-use std::alloc::{AllocError, Global};
-use xdr_filling::{Filling, Spelled};
+use std::alloc::AllocError;
+use xdr_filling::Spelled;
 
 /// For how many bytes there is space at first, so that a short value asks for memory once.
 pub const FIRST: usize = 256;
@@ -41,18 +38,10 @@ fn put_at(bytes: &[u8], at: usize, buffer: &mut [u8])
 }
 
 impl<'a> Encoding<'a> {
-    /// No bytes, and space for some.
-    pub fn start(alloc: Global) -> Result<Encoding<'a>, AllocError>
-        ensures { IfOk result (λ e. bytes_in e ≡ []) }
-    {
-        let mut front = Vec::new(alloc);
-        front.reserve(FIRST)?;
-        Ok(Encoding::of(front))
-    }
-
     /// These bytes alone.
     pub fn of(front: Vec<u8>) -> Encoding<'a>
-        ensures { bytes_in result ≡ front.items }
+        ensures bytes { bytes_in result ≡ front.items }
+        ensures alone { result.content.now ≡ [] }
     {
         Encoding {
             front,
@@ -71,27 +60,11 @@ impl<'a> Encoding<'a> {
             .saturating_add(zeros_behind(self.content.len()).len())
     }
 
-    // Copies the content and its zeros behind the bytes before it.
-    #[inline(always)]
-    fn settle(&mut self) -> Result<(), AllocError>
-        ensures { OnOk result ((self.new.front.items ≡ bytes_in self.old) × (self.new.content.now ≡ [])) }
-    {
-        if self.content.is_empty() {
-            return Ok(());
-        }
-        self.front.extend_from_slice(self.content)?;
-        self.front
-            .extend_from_slice(zeros_behind(self.content.len()))?;
-        self.content = &[];
-        Ok(())
-    }
-
-    /// Puts the bytes of an item behind those so far. Its content is not copied before the next item comes.
-    #[inline(always)]
+    /// Puts the bytes of an item behind those so far, the last. Its content is not copied.
     pub fn put(&mut self, item: Spelled<'a>) -> Result<(), AllocError>
+        requires { self.old.content.now ≡ [] }
         ensures { OnOk result (bytes_in self.new ≡ bytes_in self.old ++ spelled_bytes item.entry) }
     {
-        self.settle()?;
         match item {
             Spelled::Unit(bytes) => self.front.extend_from_slice(&bytes),
             Spelled::Wide(bytes) => self.front.extend_from_slice(&bytes),
@@ -105,24 +78,6 @@ impl<'a> Encoding<'a> {
                 Ok(())
             }
         }
-    }
-
-    /// Puts the first of some numbers behind the bytes so far, where they are due; tells how many, of which 0 says
-    /// nothing.
-    pub fn put_numbers(
-        &mut self,
-        filling: &mut Filling,
-        numbers: &[i128],
-    ) -> Result<usize, AllocError>
-        ensures few { IfOk result (λ n. n ≤ length numbers.now) }
-        ensures bytes { IfOk result (λ n. bytes_in self.new ≡ bytes_in self.old ++ units (take n numbers.now)) }
-        ensures filled { IfOk result (λ n. (place depth : ℕ) (is : List ItemView) (bytes : List ℕ)
-            → HasFilled filling.old place depth is bytes → HasFilled filling.new place depth
-            (is ++ as_items (take n numbers.now)) (bytes ++ units (take n numbers.now))) }
-        ensures schema { filling.new.schema.now ≡ filling.old.schema.now }
-    {
-        self.settle()?;
-        filling.take_numbers(numbers, &mut self.front)
     }
 
     /// Puts all at the front of the buffer where it fits into it, and tells whether it does. It has no more bytes than

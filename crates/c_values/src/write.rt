@@ -6,17 +6,19 @@ ghost use Rattle.c_values.specs.Written.{IsWritten, IsWrittenByHeld};
 ghost use Rattle.c_values.specs.Statuses.{Reports};
 
 use super::answer::Answer;
+use super::buffer::put;
 use super::handle::Handle;
 use super::item::ValueItem;
 use super::state::State;
-use super::straight::encode;
+use super::straight::{FEW, are_few, encode, encode_near};
 use c_answers::Outcome;
 use c_handles::{keep, taken};
 use std::alloc::Global;
 use xdr_types::{KindId, Limits, Schema};
 
-/// Puts the encoding of the value that has these items into the buffer.
-fn write_into(
+// Puts the encoding of the value that has these items into the buffer, from memory of its own.
+#[inline(never)]
+fn write_far(
     alloc: Global,
     schema: &Schema,
     kind: KindId,
@@ -42,6 +44,38 @@ fn write_into(
     }
     *written = needed;
     Answer::Whole { used: needed }
+}
+
+/// The same; few bytes go by way of an array on the stack.
+fn write_into(
+    alloc: Global,
+    schema: &Schema,
+    kind: KindId,
+    limits: Limits,
+    items: &[ValueItem],
+    content: &[u8],
+    buffer: &mut [u8],
+    written: &mut usize,
+) -> Answer
+    requires { kind.place < length schema.now.kinds }
+    ensures { IsWritten (record { kinds = schema.now.kinds; place = kind.place; limits = limits })
+        (given items.now content.now) buffer.old buffer.new written.new result }
+{
+    *written = 0;
+    if are_few(items, content) {
+        let mut near = [0; FEW];
+        match encode_near(alloc, schema, kind, limits, items, content, &mut near) {
+            Ok(Some(count)) => {
+                if put(buffer, &near[..count], written) {
+                    return Answer::Whole { used: count };
+                }
+                return Answer::NoRoom { needed: count };
+            }
+            Ok(None) => {}
+            Err(_) => return Answer::NoMemory,
+        }
+    }
+    write_far(alloc, schema, kind, limits, items, content, buffer, written)
 }
 
 /// The same by declarations, which stay. The name is looked at before the limits.

@@ -1,14 +1,18 @@
 -- What becomes of the parts that are not filled where the next is.
-use Rattle.std.proofs.Common.{◌≡◌, ℕ, ◌+◌, ◌≤◌, List, [], ◌∷◌, ◌++◌, refl, ap, sym, ◌∙◌, subst, arith}
-use Rattle.std.proofs.Common.{length, Bool, true, false, not}
+use Rattle.std.proofs.Common.{◌≡◌, ℕ, ◌+◌, ◌≤◌, List, [], ◌∷◌, ◌++◌, refl, ap, sym, ◌∙◌, subst, arith, length, replicate}
+use Rattle.std.proofs.Common.{map, suc, zero, ◌-◌, ◌<◌, get_or, append-nil, Bool, true, false, not, drop}
 use Rattle.std.proofs.lemmas.Bool.{false≢true}
+use Rattle.std.specs.Prelude.{Option, Some, None, MatchOption}
 use Rattle.xdr_types.specs.Kinds.{KindView, Part, kind_at}
-use Rattle.xdr_stream.specs.Frames.{left_of, rest_of, Begins}
+use Rattle.xdr_types.specs.KindViews.{part_of_member}
+use Rattle.xdr_types.specs.Fits.{item_part}
+use Rattle.xdr_types.specs.declared.kind.KindId.{KindId}
+use Rattle.xdr_types.specs.declared.kind.Member.{Member}
 use Rattle.xdr_writer.specs.Items.{ItemView}
 use Rattle.xdr_filling.specs.Holes.{Hole, hole, Goes}
-use Rattle.xdr_filling.specs.Filled.{hole_of, onto}
+use Rattle.xdr_filling.specs.Gaps.{hole_of, holes_in, onto, parts_of}
 use Rattle.xdr_filling.specs.declared.gap.Gap.{Gap}
-use Rattle.xdr_filling.specs.Private.Makes.{IsNode}
+use Rattle.xdr_filling.specs.Private.Makes.{IsNode, NextIs, Steps}
 use Rattle.xdr_filling.proofs.Going.{stays, goes_by, goes_on, pops, drops, fills, opens}
 
 -- one more stands inside all others
@@ -16,59 +20,77 @@ pub onto_more : (outer : List Hole) (gs : List Gap) (g : Gap) → onto outer (gs
 onto_more outer [] g = refl
 onto_more outer (x ∷ gs) g = onto_more (hole_of x ∷ outer) gs g
 
+pub popped : (gs hs : List Gap) (g : Gap) → gs ≡ hs ++ g ∷ [] → onto [] gs ≡ holes_in g hs
+popped gs hs g e = ap (λ (x : List Gap). onto [] x) e ∙ onto_more [] hs g
+
+pub empty : (gs : List Gap) → length gs ≡ 0 → gs ≡ []
+empty [] e = refl
+empty (g ∷ gs) e = absurd (omega (arith, e))
+
+-- the first of so many items
+pub first_item : (place n left : ℕ) (ps : List Part) → 0 < n → left ≡ n - 1
+    → replicate n (item_part place) ++ ps ≡ item_part place ∷ (replicate left (item_part place) ++ ps)
+first_item place zero left ps some e = absurd (omega (arith, some))
+first_item place (suc n) left ps some e =
+    let same : n ≡ left = omega (arith, e) in
+    ap (λ (m : ℕ). item_part place ∷ (replicate m (item_part place) ++ ps)) same
+
+module _ (w : Gap) (gs : List Gap) where
+  module _ (s : List KindView) (o v : Gap) (hs : List Gap) (before : Goes s (holes_in w gs) (holes_in o hs) [] []) where
+    none_next : parts_of o ≡ [] → Goes s (holes_in w gs) (onto [] hs) [] []
+    none_next none =
+        goes_by s (holes_in w gs) (holes_in o hs) (onto [] hs) [] [] before
+        (subst (λ (ps : List Part). Goes s (hole ps o.room ∷ onto [] hs) (onto [] hs) [] []) (sym none)
+        (pops s o.room (onto [] hs)))
+
+    one_next : (place : ℕ) (t : Steps o v place)
+        → Goes s (holes_in w gs) (hole (t.part ∷ parts_of v) v.room ∷ onto [] hs) [] []
+    one_next place t =
+        let to : List Hole = hole (t.part ∷ parts_of v) v.room ∷ onto [] hs in
+        goes_by s (holes_in w gs) (holes_in o hs) to [] [] before
+        (subst (λ (ps : List Part). Goes s (hole ps o.room ∷ onto [] hs) to [] []) (sym t.parts)
+        (subst (λ (r : ℕ). Goes s (hole (t.part ∷ parts_of v) r ∷ onto [] hs) to [] []) t.room (stays s to)))
+
+  -- a step of the gap that is innermost now
+  pub after_step : (o v : Gap) (hs : List Gap) (r : Option KindId)
+      → ((s : List KindView) → Goes s (holes_in w gs) (holes_in o hs) [] [])
+      → MatchOption r (parts_of o ≡ []) (λ k. Steps o v k.place)
+      → MatchOption r ((s : List KindView) → Goes s (holes_in w gs) (onto [] hs) [] [])
+      (λ k. NextIs w gs v hs k.place)
+  after_step o v hs None before none = λ s. none_next s o v hs (before s) none
+  after_step o v hs (Some k) before t = record {
+    part = t.part;
+    kind = t.kind;
+    goes = λ s. one_next s o v hs (before s) k.place t;
+  }
+
 module _ (s : List KindView) where
-  -- the next of these parts, where there are some
-  module _ (ps : List Part) (place room : ℕ) (hs : List Hole) (is : List ItemView) (bytes : List ℕ) (qs : List Part)
-      (b : Begins ps place) (n : IsNode s (kind_at s place) is bytes qs) where
-    node : IsNode s (kind_at s b.0.kind) is bytes qs
-    node = subst (λ (x : ℕ). IsNode s (kind_at s x) is bytes qs) (sym b.2) n
+  -- the rest of a node is put onto the others, or has no parts
+  pub rest_put : (h : Hole) (w : Gap) (old new : List Gap) → new ≡ old ++ w ∷ []
+      → Goes s (h ∷ holes_in w old) (h ∷ onto [] new) [] []
+  rest_put h w old new more =
+      subst (λ (x : List Hole). Goes s (h ∷ holes_in w old) (h ∷ x) [] []) (sym (popped new old w more))
+      (stays s (h ∷ holes_in w old))
 
-    pub leaf_goes : (rest : List Part) → rest ≡ rest_of ps → qs ≡ [] → 1 ≤ room
-        → Goes s (hole ps room ∷ hs) (hole rest room ∷ hs) is bytes
-    leaf_goes rest e none low =
-        subst (λ (x : List Part). Goes s (hole x room ∷ hs) (hole rest room ∷ hs) is bytes) (sym b.1)
-        (subst (λ (x : List Part). Goes s (hole (b.0 ∷ rest_of ps) room ∷ hs) (hole x room ∷ hs) is bytes) (sym e)
-        (fills s b.0 (rest_of ps) room hs is bytes qs node none low))
+  pub rest_left : (h : Hole) (w : Gap) (old : List Gap) → parts_of w ≡ []
+      → Goes s (h ∷ holes_in w old) (h ∷ onto [] old) [] []
+  rest_left h w old none =
+      subst (λ (ps : List Part). Goes s (h ∷ hole ps w.room ∷ onto [] old) (h ∷ onto [] old) [] []) (sym none)
+      (drops s h w.room (onto [] old))
 
-    pub node_goes : (inner : ℕ) → inner + 1 ≤ room → (more : List Hole)
-        → Goes s (hole qs inner ∷ hole (rest_of ps) room ∷ hs) (hole qs inner ∷ more) [] []
-        → Goes s (hole ps room ∷ hs) (hole qs inner ∷ more) is bytes
-    node_goes inner low more put =
-        goes_by s (hole ps room ∷ hs) (hole qs inner ∷ hole (rest_of ps) room ∷ hs) (hole qs inner ∷ more) is bytes
-        (subst (λ (x : List Part). Goes s (hole x room ∷ hs) (hole qs inner ∷ hole (rest_of ps) room ∷ hs) is bytes)
-        (sym b.1) (opens s b.0 (rest_of ps) room hs is bytes qs node inner low))
-        put
+  -- a node that fills the part that was taken away
+  module _ (p : Part) (w : Gap) (hs : List Hole) (is : List ItemView) (bytes : List ℕ) (qs : List Part)
+      (n : IsNode s (kind_at s p.kind) is bytes qs) (low : 1 ≤ w.room) where
+    pub leaf_goes : qs ≡ [] → Goes s (hole (p ∷ parts_of w) w.room ∷ hs) (hole_of w ∷ hs) is bytes
+    leaf_goes none = fills s p (parts_of w) w.room hs is bytes qs n none low
 
-  -- the rest of a node, which is put onto the others where it has parts
-  pub rest_put : (h : Hole) (ps : List Part) (g : Gap) (old new : List Gap) → left_of g.frame ≡ rest_of ps
-      → new ≡ old ++ g ∷ []
-      → Goes s (h ∷ hole (rest_of ps) g.room ∷ onto [] old) (h ∷ onto [] new) [] []
-  rest_put h ps g old new e more =
-      subst (λ (x : List Hole). Goes s (h ∷ hole (rest_of ps) g.room ∷ onto [] old) (h ∷ x) [] [])
-      (sym (onto_more [] old g) ∙ ap (λ (x : List Gap). onto [] x) (sym more))
-      (subst (λ (x : List Part). Goes s (h ∷ hole x g.room ∷ onto [] old) (h ∷ hole_of g ∷ onto [] old) [] []) e
-      (stays s (h ∷ hole_of g ∷ onto [] old)))
-
-  pub rest_left : (h : Hole) (ps rest : List Part) (room : ℕ) (old : List Hole) → rest ≡ rest_of ps → rest ≡ []
-      → Goes s (h ∷ hole (rest_of ps) room ∷ old) (h ∷ old) [] []
-  rest_left h ps rest room old e none =
-      subst (λ (x : List Part). Goes s (h ∷ hole x room ∷ old) (h ∷ old) [] []) (sym none ∙ e) (drops s h room old)
-
-  -- a node that has all its parts
-  pub ended : (a : List Hole) (g o : Gap) (old new : List Gap) → Goes s a (hole_of g ∷ onto [] old) [] []
-      → left_of g.frame ≡ [] → old ≡ new ++ o ∷ [] → Goes s a (hole_of o ∷ onto [] new) [] []
-  ended a g o old new go none split =
-      goes_by s a (hole_of g ∷ onto [] old) (hole_of o ∷ onto [] new) [] [] go
-      (subst (λ (x : List Hole). Goes s (hole_of g ∷ x) (hole_of o ∷ onto [] new) [] [])
-      (sym (onto_more [] new o) ∙ ap (λ (x : List Gap). onto [] x) (sym split))
-      (subst (λ (x : List Part). Goes s (hole x g.room ∷ hole_of o ∷ onto [] new) (hole_of o ∷ onto [] new) [] [])
-      (sym none) (pops s g.room (hole_of o ∷ onto [] new))))
-
-  pub none_left : (g : Gap) (old : List Gap) → left_of g.frame ≡ [] → old ≡ []
-      → Goes s (hole_of g ∷ onto [] old) [] [] []
-  none_left g old none empty =
-      subst (λ (x : List Gap). Goes s (hole_of g ∷ onto [] x) [] [] []) (sym empty)
-      (subst (λ (x : List Part). Goes s (hole x g.room ∷ []) [] [] []) (sym none) (pops s g.room []))
+    pub node_goes : (g : Gap) (to : List Hole) → parts_of g ≡ qs → g.room ≡ w.room - 1
+        → Goes s (hole_of g ∷ hole_of w ∷ hs) to [] [] → Goes s (hole (p ∷ parts_of w) w.room ∷ hs) to is bytes
+    node_goes g to inside room put =
+        let from : List Hole = hole (p ∷ parts_of w) w.room ∷ hs in
+        goes_by s from (hole_of g ∷ hole_of w ∷ hs) to is bytes
+        (subst (λ (ps : List Part). Goes s from (hole ps g.room ∷ hole_of w ∷ hs) is bytes) (sym inside)
+        (opens s p (parts_of w) w.room hs is bytes qs n g.room (omega (arith, room, low)))) put
 
   -- ---- several steps
 
@@ -81,10 +103,24 @@ module _ (s : List KindView) where
   item_goes r a b c is js x y before silent f =
       goes_on s r b c is js x y (goes_by s r a b is x before silent) f
 
-pub empty : (gs : List Gap) → length gs ≡ 0 → gs ≡ []
-empty [] e = refl
-empty (g ∷ gs) e = absurd (omega (arith, e))
+-- what the parts of a gap are, by its frame
+pub fields_alone : (item : ℕ) (ps : List Part) → replicate 0 (item_part item) ++ ps ≡ ps
+fields_alone item ps = refl
 
-pub is_off : (b : Bool) → not b ≡ true → b ≡ false
-is_off true e = absurd (false≢true e)
-is_off false e = refl
+pub items_alone : (item left : ℕ) → replicate left (item_part item) ++ [] ≡ replicate left (item_part item)
+items_alone item left = append-nil (replicate left (item_part item))
+
+pub is_on : (b : Bool) → not b ≡ false → b ≡ true
+is_on true e = refl
+is_on false e = absurd (false≢true (sym e))
+
+-- the first of some fields
+pub first_field : (item left : ℕ) (ms ns : List Member) (m : Member) → left ≡ 0 → 1 ≤ length ms → m ≡ get_or ms 0 m
+    → ns ≡ drop 1 ms → replicate left (item_part item) ++ map part_of_member ms
+    ≡ part_of_member m ∷ (replicate left (item_part item) ++ map part_of_member ns)
+first_field item left [] ns m none some is rest = absurd (omega (arith, some))
+first_field item left (x ∷ ms) ns m none some is rest =
+    ap (λ (n : ℕ). replicate n (item_part item) ++ map part_of_member (x ∷ ms)) none
+    ∙ ap (λ (y : Member). part_of_member y ∷ map part_of_member ms) (sym is)
+    ∙ ap (λ (l : List Member). part_of_member m ∷ map part_of_member l) (sym rest)
+    ∙ ap (λ (n : ℕ). part_of_member m ∷ (replicate n (item_part item) ++ map part_of_member ns)) (sym none)

@@ -1,6 +1,6 @@
 -- Numbers of one unit in a list, one after another.
-use Rattle.std.proofs.Common.{◌≡◌, ℕ, ℤ, zero, suc, ◌+◌, ◌<◌, Bool, true, List, [], ◌∷◌, ◌++◌, length, take}
-use Rattle.std.proofs.Common.{get_or, ap, sym, ◌∙◌, subst, arith, append-nil, append_assoc}
+use Rattle.std.proofs.Common.{◌≡◌, ℕ, ℤ, zero, suc, ◌+◌, ◌*◌, ◌<◌, Bool, true, List, [], ◌∷◌, ◌++◌, length, take, refl}
+use Rattle.std.proofs.Common.{get_or, ap, sym, ◌∙◌, subst, arith, append-nil, append_assoc, length-append}
 use Rattle.std.proofs.Math.Seq.{take-suc}
 use Rattle.xdr_units.specs.Numbers.{num4}
 use Rattle.xdr_filling.specs.Filled.{units}
@@ -38,3 +38,8 @@ pub unit_at : (signed : Bool) (zs : List ℤ) (n : ℕ) (d : ℤ) → n < length
 unit_at signed [] n d less h = absurd (omega (arith, less))
 unit_at signed (z ∷ zs) zero d less h = h.0
 unit_at signed (z ∷ zs) (suc n) d less h = unit_at signed zs n d (omega (arith, less)) h.1
+
+-- each has four bytes
+pub units_count : (zs : List ℤ) → length (units zs) ≡ 4 * length zs
+units_count [] = refl
+units_count (z ∷ zs) = omega (arith, length-append (num4 z) (units zs), units_count zs)

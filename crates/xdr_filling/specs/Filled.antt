@@ -1,31 +1,22 @@
 -- The parts that are not filled yet, and the items and bytes so far.
-use Rattle.std.specs.Prelude.{◌≡◌, ◌≤◌, ℕ, ℤ, Bool, List, [], ◌∷◌, ◌++◌, replicate}
+use Rattle.std.specs.Prelude.{◌≡◌, ◌+◌, ◌≤◌, ℕ, ℤ, Bool, List, [], ◌∷◌, ◌++◌, ◌<◌, length, take, drop, get_or, replicate}
 use Rattle.xdr_types.specs.Kinds.{KindView, kind_at}
 use Rattle.xdr_types.specs.Tree.{Tree, depth}
 use Rattle.xdr_types.specs.Fits.{Fits, item_part}
 use Rattle.xdr_types.specs.Spelling.{bytes_of}
 use Rattle.xdr_units.specs.Numbers.{num4, padded}
-use Rattle.xdr_stream.specs.Frames.{left_of}
 use Rattle.xdr_writer.specs.Items.{ItemView}
 use Rattle.xdr_writer.specs.ItemsOf.{items_of}
 use Rattle.xdr_writer.specs.Represents.{word_kind}
 use Rattle.xdr_filling.specs.Holes.{Hole, hole, Goes}
-use Rattle.xdr_filling.specs.declared.gap.Gap.{Gap}
+use Rattle.xdr_filling.specs.Gaps.{parts_of, holes_in}
 use Rattle.xdr_filling.specs.declared.filling.Filling.{Filling}
 use Rattle.xdr_filling.specs.declared.spelled.Spelled.{Spelled}
 use Rattle.xdr_filling.specs.declared.spelled.Spelled.TheVariants as spelled
 
-abbrev pub hole_of : Gap → Hole
-hole_of g = hole (left_of g.frame) g.room
-
--- the gaps of nodes, the outermost first, over holes outside them
-abbrev pub onto : List Hole → List Gap → List Hole
-onto outer [] = outer
-onto outer (g ∷ gs) = onto (hole_of g ∷ outer) gs
-
 -- all that is not filled, in the order of the bytes
 abbrev pub holes_of : Filling → List Hole
-holes_of f = hole_of f.work ∷ onto [] f.around.items
+holes_of f = holes_in f.work f.around.items
 
 -- a value of the kind at a place, of which nothing is filled
 abbrev pub root : (place depth : ℕ) → List Hole
@@ -41,7 +32,7 @@ HasFilled f place depth is bytes = Goes f.schema.now.kinds (root place depth) (h
 pub record AreDue (f : Filling) (count : ℕ) : Type 0 where
   pub place : ℕ
   pub signed : Bool
-  pub parts : left_of f.work.frame ≡ replicate count (item_part place)
+  pub parts : parts_of f.work ≡ replicate count (item_part place)
   pub kind : kind_at f.schema.now.kinds place ≡ word_kind signed
 
 -- the items are those of a value of the kind with no more levels, whose encoding these bytes are
@@ -61,3 +52,22 @@ spelled_bytes (spelled.Unit bytes) = bytes
 spelled_bytes (spelled.Wide bytes) = bytes
 spelled_bytes (spelled.Fixed content) = padded content.now
 spelled_bytes (spelled.Counted size content) = size ++ padded content.now
+
+-- These items stand behind those so far, and their bytes behind theirs. In a slice they stand behind the first so many,
+-- up to the end; all others stay.
+pub record PutsBehind (f g : Filling) (is : List ItemView) (old new : List ℕ) (at end : ℕ) : Type 0 where
+  pub bytes : List ℕ
+  pub fills : (place depth : ℕ) (js : List ItemView) (before : List ℕ) → HasFilled f place depth js before
+      → HasFilled g place depth (js ++ is) (before ++ bytes)
+  pub put : new ≡ take at old ++ (bytes ++ drop end old)
+  pub count : end ≡ at + length bytes
+  pub within : end ≤ length old
+
+-- So many of the first items of a source stand behind those so far, and their bytes at the front of a slice, whose other
+-- bytes stay.
+pub record PutsFirst {S : Type 0} (tells : S → ℕ → ItemView → Type 0) (s : S) (count : ℕ) (f g : Filling)
+    (old new : List ℕ) (end : ℕ) : Type 0 where
+  pub is : List ItemView
+  pub many : length is ≡ count
+  pub told : (at : ℕ) (i : ItemView) → at < count → tells s at (get_or is at i)
+  pub puts : PutsBehind f g is old new 0 end

@@ -1,3 +1,4 @@
 pub mod Holes
+pub mod Gaps
 pub mod Filled
 pub mod Private

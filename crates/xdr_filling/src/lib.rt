@@ -3,6 +3,7 @@
 //!
 //! - `filling`: the parts of a value that are not filled. `gap`: those of one node. `due`: the one that comes next.
 //! - `made`: what an item makes of a part. `numbers`: of a number. `spelled`: the bytes of an item.
+//! - `putting`: all items of a `source`, whose bytes are put into a slice. `places`: bytes at a place of it.
 //! - `runs`: items of an array that are numbers, many at once.
 #![tactic(auto)]
 
@@ -11,9 +12,13 @@ mod filling;
 mod gap;
 mod made;
 mod numbers;
+mod places;
+mod putting;
 mod runs;
+mod source;
 mod spelled;
 
 pub use filling::Filling;
 pub use gap::Gap;
+pub use source::Source;
 pub use spelled::Spelled;

@@ -38,9 +38,9 @@ fn count_unit(count: u32) -> [u8; 4]
     bytes
 }
 
-// Whether an optional item is there.
+/// Whether an optional item is there.
 #[inline(always)]
-fn flag_made<'s, 'a>(kind: &'s Kind, flag: bool) -> Option<Made<'s, 'a>>
+pub(crate) fn flag_made<'s, 'a>(kind: &'s Kind, flag: bool) -> Option<Made<'s, 'a>>
     ensures { (kinds : List KindView) → IfSome result (Makes kinds (kind_view kind.now) (told.flag flag)) }
 {
     let Kind::Maybe { item } = kind else {
@@ -82,9 +82,9 @@ fn count_made<'s, 'a>(kind: &'s Kind, count: u32) -> Option<Made<'s, 'a>>
     })
 }
 
-// Content behind its length (RFC 4506 sections 4.10, 4.11).
+/// Content behind its length (RFC 4506 sections 4.10, 4.11).
 #[inline(always)]
-fn counted_made<'s, 'a>(max: u32, bytes: &'a [u8]) -> Option<Made<'s, 'a>>
+pub(crate) fn counted_made<'s, 'a>(max: u32, bytes: &'a [u8]) -> Option<Made<'s, 'a>>
     ensures { (kinds : List KindView) → IfSome result (λ m. Makes kinds (opaque_up_to max) (told.content bytes.now) m
         × Makes kinds (text max) (told.content bytes.now) m) }
 {

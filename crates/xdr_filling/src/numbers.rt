@@ -1,9 +1,9 @@
 //! What a number makes of the part that is due.
-ghost use Rattle.std.specs.Prelude.{◌≡◌, ◌^◌, List, [], ◌∷◌, Option, true, IfSome};
+ghost use Rattle.std.specs.Prelude.{◌≡◌, ◌^◌, List, [], ◌∷◌, Option, true, is_some, IfSome};
 ghost use Rattle.xdr_types.specs.Kinds as xdr;
 ghost use Rattle.xdr_types.specs.Kinds.{KindView, Part, Branch, kind_at};
 ghost use Rattle.xdr_types.specs.KindViews.{kind_view};
-ghost use Rattle.xdr_types.specs.Fits.{is_signed, is_unsigned};
+ghost use Rattle.xdr_types.specs.Fits.{is_signed, is_tag_of, is_unsigned};
 ghost use Rattle.xdr_units.specs.Numbers.{num4, num8};
 ghost use Rattle.xdr_writer.specs.Items as told;
 ghost use Rattle.xdr_filling.specs.Private.Makes.{Makes, IsNode, leaf_bytes};
@@ -180,22 +180,35 @@ fn unsigned_hyper_leaf(number: i128) -> Option<[u8; 8]>
     }
 }
 
-// A discriminant (section 4.15).
+// Whether a discriminant may have the number, where a number may have a part without a case.
+#[inline(always)]
+fn may_have(schema: &Schema, tag: KindId, free: bool, number: i64) -> bool
+    ensures { result ≡ true → free ≡ true → is_tag_of (kind_at schema.now.kinds tag.place) number ≡ true }
+{
+    !free || is_legal_tag(schema, tag, number)
+}
+
+// A discriminant (section 4.15). Where there is no default, each number that has a part is that of a case, which the
+// discriminant may have.
 #[inline(always)]
 fn choice_made<'s, 'a>(
     schema: &'s Schema,
     id: KindId,
     tag: KindId,
+    free: bool,
     number: i128,
 ) -> Option<Made<'s, 'a>>
+    requires { (arms : List Branch) (other : Option Part)
+        → kind_at schema.now.kinds id.place ≡ xdr.choice tag.place arms other → is_some other ≡ free }
     ensures { (arms : List Branch) (other : Option Part)
         → kind_at schema.now.kinds id.place ≡ xdr.choice tag.place arms other
         → IfSome result (Makes schema.now.kinds (xdr.choice tag.place arms other) (told.number number)) }
 {
+    let _known = schema.len();
     let Some(word) = word_of(number) else {
         return None;
     };
-    if !is_legal_tag(schema, tag, word.number) {
+    if !may_have(schema, tag, free, word.number) {
         return None;
     }
     let Some(member) = part_in(schema, id, word.number) else {
@@ -241,8 +254,8 @@ pub(crate) fn number_made<'s, 'a>(
     requires { kind_view kind.now ≡ kind_at schema.now.kinds id.place }
     ensures { IfSome result (Makes schema.now.kinds (kind_view kind.now) (told.number number)) }
 {
-    if let Kind::Choice { tag, .. } = kind {
-        return choice_made(schema, id, *tag, number);
+    if let Kind::Choice { tag, other, .. } = kind {
+        return choice_made(schema, id, *tag, other.is_some(), number);
     }
     let Some(leaf) = leaf_of(schema, id, kind, number) else {
         return None;

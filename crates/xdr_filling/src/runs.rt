@@ -1,16 +1,20 @@
 //! Items of an array that are numbers of one unit, many at once.
-ghost use Rattle.std.specs.Prelude.{◌≡◌, ◌<◌, ◌≤◌, ◌++◌, ℕ, List, length, take, OnOk, IfOk, IfSome, true};
+ghost use Rattle.std.specs.Prelude.{◌≡◌, ◌+◌, ◌*◌, ◌<◌, ◌≤◌, ◌∷◌, ◌++◌, ℕ, List, length, take, OnOk, IfOk, IfSome, true};
 ghost use Rattle.xdr_units.specs.Numbers.{num4};
 ghost use Rattle.xdr_writer.specs.Items.{ItemView};
 ghost use Rattle.xdr_writer.specs.Runs.{as_items};
+ghost use Rattle.xdr_filling.specs.Holes.{Goes, Hole};
+ghost use Rattle.xdr_filling.specs.Gaps.{hole_of};
 ghost use Rattle.xdr_filling.specs.Filled.{AreDue, HasFilled, units};
 ghost use Rattle.xdr_filling.specs.Private.Makes.{AreUnits, IsRun, is_unit};
+ghost use Rattle.xdr_filling.specs.Private.Placed.{StandAt};
 
 use crate::filling::Filling;
+use crate::gap::Gap;
 use crate::numbers::{is_int, is_unsigned_int, signed_unit, unsigned_unit};
+use crate::places::put_at;
 use std::alloc::AllocError;
-use xdr_stream::machine::frame::Frame;
-use xdr_types::{Kind, KindId};
+use xdr_types::{Kind, KindId, Schema};
 
 // Items of an array that come next: their kind, how many they are, and whether they are signed.
 #[derive(Clone, Copy)]
@@ -69,39 +73,77 @@ fn push_units(signed: bool, numbers: &[i128], out: &mut Vec<u8>) -> Result<(), A
     Ok(())
 }
 
-impl<'s> Filling<'s> {
-    // The numbers of one unit that come next, items of an array.
-    #[inline(always)]
-    fn run(&self) -> Option<Run>
-        ensures { IfSome result (λ r. IsRun self.now r) }
-    {
-        let Frame::Items { item, left } = self.work.frame else {
-            return None;
-        };
-        if self.work.room == 0 || !self.schema.has(item) {
-            return None;
-        }
-        match self.schema.kind(item) {
-            Kind::Int => Some(Run {
-                item,
-                left,
-                signed: true,
-            }),
-            Kind::Unsigned => Some(Run {
-                item,
-                left,
-                signed: false,
-            }),
-            _ => None,
-        }
+// Puts numbers of one unit behind the first so many bytes.
+fn put_units(signed: bool, numbers: &[i128], at: usize, out: &mut [u8])
+    requires units { AreUnits signed numbers.now }
+    requires space { at + 4 * length numbers.now ≤ length out.old }
+    ensures { StandAt out.old out.new at (units numbers.now) }
+{
+    let mut end = at;
+    for number in numbers {
+        put_at(&unit(signed, *number), end, out);
+        end += 4;
     }
+}
 
+// The numbers of one unit that come next, items of an array, at least two.
+#[inline(always)]
+fn run_of(schema: &Schema, work: &Gap<'_>) -> Option<Run>
+    ensures { IfSome result (λ r. IsRun schema.now.kinds work.now r) }
+{
+    if work.left < 2 || !work.fields.is_empty() || work.room == 0 || !schema.has(work.item) {
+        return None;
+    }
+    match schema.kind(work.item) {
+        Kind::Int => Some(Run {
+            item: work.item,
+            left: work.left,
+            signed: true,
+        }),
+        Kind::Unsigned => Some(Run {
+            item: work.item,
+            left: work.left,
+            signed: false,
+        }),
+        _ => None,
+    }
+}
+
+/// Takes the first of some numbers, items of an array of ints or unsigned ints, and puts their bytes behind the first
+/// so many of `out`. It tells how many, of which 0 says nothing.
+#[inline(never)]
+pub(crate) fn put_numbers(
+    schema: &Schema,
+    work: &mut Gap<'_>,
+    numbers: &[i128],
+    at: usize,
+    out: &mut [u8],
+) -> usize
+    requires { at ≤ length out.old }
+    ensures few { result ≤ length numbers.now }
+    ensures space { at + 4 * result ≤ length out.old }
+    ensures put { StandAt out.old out.new at (units (take result numbers.now)) }
+    ensures goes { (hs : List Hole) → Goes schema.now.kinds (hole_of work.old ∷ hs) (hole_of work.new ∷ hs)
+        (as_items (take result numbers.now)) (units (take result numbers.now)) }
+{
+    let Some(run) = run_of(schema, work) else {
+        return 0;
+    };
+    let space = (out.len() - at) / 4;
+    let most = numbers.len().min(run.left as usize).min(space);
+    let count = units_in_front(run.signed, &numbers[..most]);
+    put_units(run.signed, &numbers[..count], at, out);
+    work.left = run.left - count as u32;
+    count
+}
+
+impl<'s> Filling<'s> {
     /// How many ints, or unsigned ints, are known to come next as items of an array. 0 says nothing.
     #[inline(always)]
     pub fn numbers_due(&self) -> usize
         ensures due { 0 < result → AreDue self.now result }
     {
-        match self.run() {
+        match run_of(self.schema, &self.work) {
             Some(run) => run.left as usize,
             None => 0,
         }
@@ -120,16 +162,13 @@ impl<'s> Filling<'s> {
         ensures few { IfOk result (λ n. n ≤ length numbers.now) }
         ensures schema { self.new.schema.now ≡ self.old.schema.now }
     {
-        let Some(run) = self.run() else {
+        let Some(run) = run_of(self.schema, &self.work) else {
             return Ok(0);
         };
         let most = numbers.len().min(run.left as usize);
         let count = units_in_front(run.signed, &numbers[..most]);
         push_units(run.signed, &numbers[..count], out)?;
-        self.work.frame = Frame::Items {
-            item: run.item,
-            left: run.left - count as u32,
-        };
+        self.work.left = run.left - count as u32;
         Ok(count)
     }
 }

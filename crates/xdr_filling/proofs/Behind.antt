@@ -1,0 +1,161 @@
+-- The items of a source whose bytes are put behind one another.
+use Rattle.std.proofs.Common.{◌≡◌, ℕ, ℤ, ◌+◌, ◌-◌, ◌*◌, ◌<◌, ◌≤◌, List, [], ◌∷◌, ◌++◌, length, take, drop, get_or, refl}
+use Rattle.std.proofs.Common.{ap, sym, ◌∙◌, subst, arith, append_assoc, append-nil, Bool, true, false, nat_lt, ltb-true, zero, suc, pos}
+use Rattle.std.proofs.Common.{ltb-false}
+use Rattle.std.proofs.lemmas.List.{length-append, get_or_append_left, get_or-append_right}
+use Rattle.xdr_types.specs.Kinds.{KindView, Part, kind_at}
+use Rattle.xdr_writer.specs.Items.{ItemView, number}
+use Rattle.xdr_writer.specs.Runs.{as_items}
+use Rattle.xdr_filling.specs.Holes.{Goes, Hole}
+use Rattle.xdr_filling.specs.Gaps.{hole_of, holes_in, onto}
+use Rattle.xdr_filling.specs.Filled.{PutsFirst, holes_of, root, units}
+use Rattle.xdr_filling.specs.declared.filling.Filling.{Filling}
+use Rattle.xdr_filling.specs.declared.gap.Gap.{Gap}
+use Rattle.xdr_filling.specs.Private.Placed.{PutsItem, PutsRun, StandAt}
+use Rattle.xdr_filling.proofs.Going.{goes_by, goes_on}
+use Rattle.xdr_filling.proofs.Placing.{stand_more, same_count}
+use Rattle.xdr_filling.proofs.Units.{units_count}
+
+module _ {S : Type 0} (tells : S → ℕ → ItemView → Type 0) (s : S) where
+  pub none_first : (f : Filling) (old : List ℕ) → PutsFirst tells s 0 f f old old 0
+  none_first f old = record {
+    is = [];
+    many = refl;
+    told = λ at i less. absurd (omega (arith, less));
+    puts = record {
+      bytes = [];
+      fills = λ place depth js before h.
+          subst (λ (x : List ℕ). Goes f.schema.now.kinds (root place depth) (holes_of f) (js ++ []) x)
+          (sym (append-nil before))
+          (subst (λ (x : List ItemView). Goes f.schema.now.kinds (root place depth) (holes_of f) x before)
+          (sym (append-nil js)) h);
+      put = refl;
+      count = refl;
+      within = omega arith;
+    };
+  }
+
+  -- so many more items, with these bytes
+  module _ (f g h : Filling) (count : ℕ) (old mid new : List ℕ) (end : ℕ)
+      (first : PutsFirst tells s count f g old mid end) (same_g : g.schema.now.kinds ≡ f.schema.now.kinds)
+      (same_h : h.schema.now.kinds ≡ f.schema.now.kinds) where
+    pub more_first : (js : List ItemView) (bytes : List ℕ) (to : ℕ)
+        → ((at : ℕ) (i : ItemView) → at < length js → tells s (count + at) (get_or js at i))
+        → Goes f.schema.now.kinds (holes_of g) (holes_of h) js bytes → StandAt mid new end bytes
+        → to ≡ end + length bytes → to ≤ length mid → PutsFirst tells s (count + length js) f h old new to
+    more_first js bytes to told goes put ends within =
+        let k = first.puts.bytes in
+        let many : length (first.is ++ js) ≡ count + length js =
+        length-append first.is js ∙ ap (λ (n : ℕ). n + length js) first.many in
+        let front : StandAt old mid 0 k =
+        first.puts.put ∙ ap (λ (n : ℕ). k ++ drop n old) first.puts.count in
+        let same : length mid ≡ length old =
+        same_count old mid k 0 front (omega arith) (omega (arith, first.puts.count, first.puts.within)) in
+        let all : StandAt old new 0 (k ++ bytes) =
+        stand_more old mid new k bytes 0 (omega arith) front
+        (subst (λ (n : ℕ). StandAt mid new n bytes) first.puts.count put) in
+        let last : to ≡ 0 + length (k ++ bytes) = omega (arith, ends, first.puts.count, length-append k bytes) in
+        record {
+          is = first.is ++ js;
+          many = many;
+          told = λ at i less. by_place at i less (nat_lt at count) refl;
+          puts = record {
+            bytes = k ++ bytes;
+            fills = λ place depth is before filled.
+                (let d = f.schema.now.kinds in
+                subst (λ (x : List KindView). Goes x (root place depth) (holes_of h) (is ++ (first.is ++ js))
+                (before ++ (k ++ bytes))) (sym same_h)
+                (subst (λ (x : List ItemView). Goes d (root place depth) (holes_of h) x (before ++ (k ++ bytes)))
+                (append_assoc is first.is js)
+                (subst (λ (x : List ℕ). Goes d (root place depth) (holes_of h) ((is ++ first.is) ++ js) x)
+                (append_assoc before k bytes)
+                (goes_on d (root place depth) (holes_of g) (holes_of h) (is ++ first.is) js (before ++ k) bytes
+                (subst (λ (x : List KindView). Goes x (root place depth) (holes_of g) (is ++ first.is) (before ++ k))
+                same_g (first.puts.fills place depth is before filled)) goes))));
+            put = all ∙ ap (λ (n : ℕ). (k ++ bytes) ++ drop n old) (sym last);
+            count = last;
+            within = omega (arith, within, same);
+          };
+        }
+      where
+        by_place : (at : ℕ) (i : ItemView) → at < count + length js → (b : Bool) → nat_lt at count ≡ b
+            → tells s at (get_or (first.is ++ js) at i)
+        by_place at i less true e =
+            let low : at < count = ltb-true at count e in
+            subst (λ (x : ItemView). tells s at x)
+            (sym (get_or_append_left first.is js i at (omega (arith, low, first.many)))) (first.told at i low)
+        by_place at i less false e =
+            let high : count ≤ at = ltb-false at count e in
+            let back : count + (at - count) ≡ at = omega (arith, high) in
+            subst (λ (n : ℕ). tells s n (get_or (first.is ++ js) at i)) back
+            (subst (λ (x : ItemView). tells s (count + (at - count)) x)
+            (sym (get_or-append_right first.is js count at i first.many high))
+            (told (at - count) i (omega (arith, less, high))))
+
+items_count : (zs : List ℤ) → length (as_items zs) ≡ length zs
+items_count [] = refl
+items_count (z ∷ zs) = omega (arith, items_count zs)
+
+number_at : (zs : List ℤ) (at : ℕ) (i : ItemView) (d : ℤ) → at < length zs
+    → get_or (as_items zs) at i ≡ number (get_or zs at d)
+number_at [] at i d less = absurd (omega (arith, less))
+number_at (z ∷ zs) zero i d less = refl
+number_at (z ∷ zs) (suc at) i d less = number_at zs at i d (omega (arith, less))
+
+module _ {S : Type 0} (tells : S → ℕ → ItemView → Type 0) (s : S) (f g : Filling) (count : ℕ) (old mid : List ℕ)
+    (end : ℕ) (first : PutsFirst tells s count f g old mid end) (same_g : g.schema.now.kinds ≡ f.schema.now.kinds)
+    where
+  -- a node without bytes of its own
+  pub silent_first : (h : Filling) → h.schema.now.kinds ≡ f.schema.now.kinds
+      → Goes f.schema.now.kinds (holes_of g) (holes_of h) [] [] → PutsFirst tells s count f h old mid end
+  silent_first h same_h goes = record {
+    is = first.is;
+    many = first.many;
+    told = first.told;
+    puts = record {
+      bytes = first.puts.bytes;
+      fills = λ place depth is before filled.
+          (let d = f.schema.now.kinds in
+          let k = first.puts.bytes in
+          subst (λ (x : List KindView). Goes x (root place depth) (holes_of h) (is ++ first.is) (before ++ k))
+          (sym same_h)
+          (goes_by d (root place depth) (holes_of g) (holes_of h) (is ++ first.is) (before ++ k)
+          (subst (λ (x : List KindView). Goes x (root place depth) (holes_of g) (is ++ first.is) (before ++ k)) same_g
+          (first.puts.fills place depth is before filled)) goes));
+      put = first.puts.put;
+      count = first.puts.count;
+      within = first.puts.within;
+    };
+  }
+
+  -- one item more
+  pub item_first : (h : Filling) → h.schema.now.kinds ≡ f.schema.now.kinds → (i : ItemView) (bytes new : List ℕ) (to : ℕ)
+      → tells s count i → Goes f.schema.now.kinds (holes_of g) (holes_of h) (i ∷ []) bytes → StandAt mid new end bytes
+      → to ≡ end + length bytes → to ≤ length mid → PutsFirst tells s (count + 1) f h old new to
+  item_first h same_h i bytes new to told goes put ends within =
+      more_first tells s f g h count old mid new end first same_g same_h (i ∷ []) bytes to
+      (λ at d less. alone at d (omega (arith, less))) goes put ends within
+    where
+      alone : (at : ℕ) (d : ItemView) → at ≡ 0 → tells s (count + at) (get_or (i ∷ []) at d)
+      alone at d none =
+          subst (λ (n : ℕ). tells s (count + n) (get_or (i ∷ []) n d)) (sym none)
+          (subst (λ (n : ℕ). tells s n i) (omega arith) told)
+
+  -- numbers
+  pub run_first : (h : Filling) → h.schema.now.kinds ≡ f.schema.now.kinds → (v w : Gap) (around : List Gap)
+      → holes_of g ≡ holes_in v around → holes_of h ≡ holes_in w around → (new : List ℕ) (many : ℕ)
+      → PutsRun tells s count f.schema.now.kinds v w mid new end many
+      → PutsFirst tells s (count + many) f h old new (end + 4 * many)
+  run_first h same_h v w around from to new many run =
+      let zs : List ℤ = run.zs in
+      let all : length (as_items zs) ≡ many = items_count zs ∙ run.count in
+      let size : length (units zs) ≡ 4 * many = units_count zs ∙ ap (λ (n : ℕ). 4 * n) run.count in
+      subst (λ (n : ℕ). PutsFirst tells s (count + n) f h old new (end + 4 * many)) all
+      (more_first tells s f g h count old mid new end first same_g same_h (as_items zs) (units zs) (end + 4 * many)
+      (λ at i less.
+      (let low : at < many = omega (arith, less, all) in
+      let here : at < length zs = omega (arith, low, run.count) in
+      subst (λ (x : ItemView). tells s (count + at) x) (sym (number_at zs at i (pos 0) here)) (run.told at (pos 0) low)))
+      (subst (λ (x : List Hole). Goes f.schema.now.kinds x (holes_of h) (as_items zs) (units zs)) (sym from)
+      (subst (λ (x : List Hole). Goes f.schema.now.kinds (holes_in v around) x (as_items zs) (units zs)) (sym to)
+      (run.goes (onto [] around)))) run.put (ap (λ (n : ℕ). end + n) (sym size)) run.within)
