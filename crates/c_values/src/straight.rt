@@ -89,7 +89,11 @@ fn space_for(items: &[ValueItem], content: &[u8], most: usize) -> usize {
         None => 0,
     };
     let copied = content.len().saturating_sub(lent);
-    items.len().saturating_mul(8).saturating_add(copied).min(most)
+    items
+        .len()
+        .saturating_mul(8)
+        .saturating_add(copied)
+        .min(most)
 }
 
 // The encoding of the value of the kind within the limits that has these items. `None` says nothing: it is answered

@@ -3,17 +3,18 @@ use Rattle.std.proofs.Common.{◌≡◌, ℕ, ℤ, ◌+◌, ◌-◌, ◌*◌, �
 use Rattle.std.proofs.Common.{ap, sym, ◌∙◌, subst, arith, append_assoc, append-nil, Bool, true, false, nat_lt, ltb-true, zero, suc, pos}
 use Rattle.std.proofs.Common.{ltb-false}
 use Rattle.std.proofs.lemmas.List.{length-append, get_or_append_left, get_or-append_right}
-use Rattle.xdr_types.specs.Kinds.{KindView, Part, kind_at}
+use Rattle.xdr_types.specs.Kinds.{KindView, Part, Lists}
 use Rattle.xdr_writer.specs.Items.{ItemView, number}
 use Rattle.xdr_writer.specs.Runs.{as_items}
 use Rattle.xdr_filling.specs.Holes.{Goes, Hole}
-use Rattle.xdr_filling.specs.Gaps.{hole_of, holes_in, onto}
+use Rattle.xdr_filling.specs.Gaps.{holes_in, onto}
 use Rattle.xdr_filling.specs.Filled.{PutsFirst, holes_of, root, units}
 use Rattle.xdr_filling.specs.declared.filling.Filling.{Filling}
 use Rattle.xdr_filling.specs.declared.gap.Gap.{Gap}
-use Rattle.xdr_filling.specs.Private.Placed.{PutsItem, PutsRun, StandAt}
+use Rattle.xdr_filling.specs.Private.Makes.{NextIs}
+use Rattle.xdr_filling.specs.Private.Placed.{PutsItem, PutsNext, PutsRun, StandAt, with_part}
 use Rattle.xdr_filling.proofs.Going.{goes_by, goes_on}
-use Rattle.xdr_filling.proofs.Placing.{stand_more, same_count}
+use Rattle.xdr_filling.proofs.Placing.{stand_more, stand_none, same_count}
 use Rattle.xdr_filling.proofs.Units.{units_count}
 
 module _ {S : Type 0} (tells : S → ℕ → ItemView → Type 0) (s : S) where
@@ -102,60 +103,79 @@ number_at [] at i d less = absurd (omega (arith, less))
 number_at (z ∷ zs) zero i d less = refl
 number_at (z ∷ zs) (suc at) i d less = number_at zs at i d (omega (arith, less))
 
-module _ {S : Type 0} (tells : S → ℕ → ItemView → Type 0) (s : S) (f g : Filling) (count : ℕ) (old mid : List ℕ)
-    (end : ℕ) (first : PutsFirst tells s count f g old mid end) (same_g : g.schema.now.kinds ≡ f.schema.now.kinds)
-    where
-  -- a node without bytes of its own
-  pub silent_first : (h : Filling) → h.schema.now.kinds ≡ f.schema.now.kinds
-      → Goes f.schema.now.kinds (holes_of g) (holes_of h) [] [] → PutsFirst tells s count f h old mid end
-  silent_first h same_h goes = record {
-    is = first.is;
-    many = first.many;
-    told = first.told;
-    puts = record {
-      bytes = first.puts.bytes;
-      fills = λ place depth is before filled.
-          (let d = f.schema.now.kinds in
-          let k = first.puts.bytes in
-          subst (λ (x : List KindView). Goes x (root place depth) (holes_of h) (is ++ first.is) (before ++ k))
-          (sym same_h)
-          (goes_by d (root place depth) (holes_of g) (holes_of h) (is ++ first.is) (before ++ k)
-          (subst (λ (x : List KindView). Goes x (root place depth) (holes_of g) (is ++ first.is) (before ++ k)) same_g
-          (first.puts.fills place depth is before filled)) goes));
-      put = first.puts.put;
-      count = first.puts.count;
-      within = first.puts.within;
-    };
-  }
+module _ {S : Type 0} (tells : S → ℕ → ItemView → Type 0) (s : S) where
+  -- what comes next stands behind the others
+  pub next_first : (f g h : Filling) (count : ℕ) (old mid new : List ℕ) (end to stop : ℕ)
+      → PutsFirst tells s count f g old mid end → g.schema.now ≡ f.schema.now → h.schema.now ≡ f.schema.now
+      → PutsNext tells s g h mid new count end to stop → PutsFirst tells s to f h old new stop
+  next_first f g h count old mid new end to stop first same_g same_h n =
+      let known_g : g.schema.now.kinds ≡ f.schema.now.kinds = ap (λ (l : Lists). l.kinds) same_g in
+      let known_h : h.schema.now.kinds ≡ f.schema.now.kinds = ap (λ (l : Lists). l.kinds) same_h in
+      subst (λ (m : ℕ). PutsFirst tells s m f h old new stop) (sym n.many)
+      (more_first tells s f g h count old mid new end first known_g known_h n.is n.bytes stop n.told
+      (subst (λ (k : List KindView). Goes k (holes_of g) (holes_of h) n.is n.bytes) known_g n.goes) n.put n.count
+      n.within)
 
-  -- one item more
-  pub item_first : (h : Filling) → h.schema.now.kinds ≡ f.schema.now.kinds → (i : ItemView) (bytes new : List ℕ) (to : ℕ)
-      → tells s count i → Goes f.schema.now.kinds (holes_of g) (holes_of h) (i ∷ []) bytes → StandAt mid new end bytes
-      → to ≡ end + length bytes → to ≤ length mid → PutsFirst tells s (count + 1) f h old new to
-  item_first h same_h i bytes new to told goes put ends within =
-      more_first tells s f g h count old mid new end first same_g same_h (i ∷ []) bytes to
-      (λ at d less. alone at d (omega (arith, less))) goes put ends within
-    where
-      alone : (at : ℕ) (d : ItemView) → at ≡ 0 → tells s (count + at) (get_or (i ∷ []) at d)
-      alone at d none =
-          subst (λ (n : ℕ). tells s (count + n) (get_or (i ∷ []) n d)) (sym none)
-          (subst (λ (n : ℕ). tells s n i) (omega arith) told)
+  module _ (f g h : Filling) (old : List ℕ) (index end place : ℕ)
+      (n : NextIs f.work f.around.items g.work g.around.items place) where
+    -- a node without bytes of its own
+    pub next_silent : (new : List ℕ) → end ≤ length old
+        → (new ≡ old) × ((p : Part) → p.kind ≡ place
+        → Goes f.schema.now.kinds (with_part p g.work g.around.items) (holes_of h) [] [])
+        → PutsNext tells s f h old new index end index end
+    next_silent new within t = record {
+      is = [];
+      many = omega arith;
+      told = λ at i less. absurd (omega (arith, less));
+      bytes = [];
+      goes = goes_by f.schema.now.kinds (holes_of f) (with_part n.part g.work g.around.items) (holes_of h) [] []
+          (n.goes f.schema.now.kinds) (t.1 n.part n.kind);
+      put = t.0 ∙ stand_none old end;
+      count = omega arith;
+      within = within;
+    }
+
+    -- an item
+    pub next_item : (new : List ℕ) (to : ℕ)
+        → PutsItem tells s index f.schema.now.kinds place g.work g.around.items h.work h.around.items old new end to
+        → PutsNext tells s f h old new index end (index + 1) to
+    next_item new to t = record {
+      is = t.item ∷ [];
+      many = omega arith;
+      told = λ at i less. alone at i (omega (arith, less));
+      bytes = t.bytes;
+      goes = goes_on f.schema.now.kinds (holes_of f) (with_part n.part g.work g.around.items) (holes_of h) []
+          (t.item ∷ []) [] t.bytes (n.goes f.schema.now.kinds) (t.goes n.part n.kind);
+      put = t.put;
+      count = t.count;
+      within = t.within;
+    }
+      where
+        alone : (at : ℕ) (d : ItemView) → at ≡ 0 → tells s (index + at) (get_or (t.item ∷ []) at d)
+        alone at d none =
+            subst (λ (m : ℕ). tells s (index + m) (get_or (t.item ∷ []) m d)) (sym none)
+            (subst (λ (m : ℕ). tells s m t.item) (omega arith) t.told)
 
   -- numbers
-  pub run_first : (h : Filling) → h.schema.now.kinds ≡ f.schema.now.kinds → (v w : Gap) (around : List Gap)
-      → holes_of g ≡ holes_in v around → holes_of h ≡ holes_in w around → (new : List ℕ) (many : ℕ)
-      → PutsRun tells s count f.schema.now.kinds v w mid new end many
-      → PutsFirst tells s (count + many) f h old new (end + 4 * many)
-  run_first h same_h v w around from to new many run =
+  pub next_run : (f g : Filling) (old new : List ℕ) (index end many : ℕ)
+      → PutsRun tells s index f.schema.now.kinds f.work g.work old new end many → g.around.items ≡ f.around.items
+      → PutsNext tells s f g old new index end (index + many) (end + 4 * many)
+  next_run f g old new index end many run around =
       let zs : List ℤ = run.zs in
       let all : length (as_items zs) ≡ many = items_count zs ∙ run.count in
-      let size : length (units zs) ≡ 4 * many = units_count zs ∙ ap (λ (n : ℕ). 4 * n) run.count in
-      subst (λ (n : ℕ). PutsFirst tells s (count + n) f h old new (end + 4 * many)) all
-      (more_first tells s f g h count old mid new end first same_g same_h (as_items zs) (units zs) (end + 4 * many)
-      (λ at i less.
-      (let low : at < many = omega (arith, less, all) in
-      let here : at < length zs = omega (arith, low, run.count) in
-      subst (λ (x : ItemView). tells s (count + at) x) (sym (number_at zs at i (pos 0) here)) (run.told at (pos 0) low)))
-      (subst (λ (x : List Hole). Goes f.schema.now.kinds x (holes_of h) (as_items zs) (units zs)) (sym from)
-      (subst (λ (x : List Hole). Goes f.schema.now.kinds (holes_in v around) x (as_items zs) (units zs)) (sym to)
-      (run.goes (onto [] around)))) run.put (ap (λ (n : ℕ). end + n) (sym size)) run.within)
+      let size : length (units zs) ≡ 4 * many = units_count zs ∙ ap (λ (n : ℕ). 4 * n) run.count in record {
+        is = as_items zs;
+        many = ap (λ (n : ℕ). index + n) (sym all);
+        told = λ at i less.
+            (let low : at < many = omega (arith, less, all) in
+            let here : at < length zs = omega (arith, low, run.count) in
+            subst (λ (x : ItemView). tells s (index + at) x) (sym (number_at zs at i (pos 0) here))
+            (run.told at (pos 0) low));
+        bytes = units zs;
+        goes = subst
+            (λ (gs : List Gap). Goes f.schema.now.kinds (holes_of f) (holes_in g.work gs) (as_items zs) (units zs))
+            (sym around) (run.goes (onto [] f.around.items));
+        put = run.put;
+        count = ap (λ (n : ℕ). end + n) (sym size);
+        within = run.within;
+      }

@@ -6,3 +6,4 @@ pub mod Units
 pub mod Placing
 pub mod Behind
 pub mod Choosing
+pub mod PutParts

@@ -2,7 +2,7 @@
 use Rattle.std.proofs.Common.{◌≡◌, ℕ, ◌+◌, ◌≤◌, List, [], ◌∷◌, ◌++◌, refl, ap, sym, ◌∙◌, subst, arith, length, replicate}
 use Rattle.std.proofs.Common.{map, suc, zero, ◌-◌, ◌<◌, get_or, append-nil, Bool, true, false, not, drop}
 use Rattle.std.proofs.lemmas.Bool.{false≢true}
-use Rattle.std.specs.Prelude.{Option, Some, None, MatchOption}
+use Rattle.std.specs.Prelude.{Option, Some, None, MatchOption, is_some}
 use Rattle.xdr_types.specs.Kinds.{KindView, Part, kind_at}
 use Rattle.xdr_types.specs.KindViews.{part_of_member}
 use Rattle.xdr_types.specs.Fits.{item_part}
@@ -64,6 +64,12 @@ module _ (w : Gap) (gs : List Gap) where
     goes = λ s. one_next s o v hs (before s) k.place t;
   }
 
+-- a part that was found
+pub some_found : (r : Option KindId) (A B : Type 0) (P : KindId → Type 0) → is_some r ≡ true → MatchOption r A P
+    → MatchOption r B P
+some_found None A B P e f = absurd (false≢true e)
+some_found (Some k) A B P e f = f
+
 module _ (s : List KindView) where
   -- the rest of a node is put onto the others, or has no parts
   pub rest_put : (h : Hole) (w : Gap) (old new : List Gap) → new ≡ old ++ w ∷ []
@@ -124,3 +130,10 @@ first_field item left (x ∷ ms) ns m none some is rest =
     ∙ ap (λ (y : Member). part_of_member y ∷ map part_of_member ms) (sym is)
     ∙ ap (λ (l : List Member). part_of_member m ∷ map part_of_member l) (sym rest)
     ∙ ap (λ (n : ℕ). part_of_member m ∷ (replicate n (item_part item) ++ map part_of_member ns)) (sym none)
+
+-- no items and no fields
+pub no_parts : (item left : ℕ) (ms : List Member) → left ≡ 0 → length ms ≡ 0
+    → replicate left (item_part item) ++ map part_of_member ms ≡ []
+no_parts item zero [] none few = refl
+no_parts item zero (m ∷ ms) none few = absurd (omega (arith, few))
+no_parts item (suc left) ms none few = absurd (omega (arith, none))

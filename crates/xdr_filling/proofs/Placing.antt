@@ -1,9 +1,9 @@
 -- Bytes that are put into a slice, one behind the other.
 use Rattle.std.proofs.Common.{◌≡◌, ℕ, ◌+◌, ◌-◌, ◌%◌, ◌<◌, ◌≤◌, List, [], ◌∷◌, ◌++◌, length, take, drop, replicate}
 use Rattle.std.proofs.Common.{ap, sym, ◌∙◌, arith, append_assoc, append-nil, length-drop, refl, subst, Bool, true, false}
-use Rattle.std.proofs.Common.{nat_lt, ltb-true, ltb-false}
+use Rattle.std.proofs.Common.{nat_lt, ltb-true, ltb-false, add-zero}
 use Rattle.std.proofs.lemmas.List.{length-append, length-take-le, take-append-le, take-take, take_at, drop_at}
-use Rattle.std.proofs.lemmas.List.{drop-append-le, drop-drop, drop-replicate, length-replicate}
+use Rattle.std.proofs.lemmas.List.{drop-append-le, drop-drop, drop-replicate, length-replicate, take-append-drop}
 use Rattle.xdr_units.specs.Numbers.{pad, padded}
 use Rattle.xdr_filling.specs.Private.Placed.{StandAt}
 
@@ -44,6 +44,11 @@ module _ (old new x : List ℕ) (at : ℕ) (h : StandAt old new at x) (low : at 
         length-drop (at + length x) old,
         length-append (take at old ++ x) (drop (at + length x) old),
       )
+
+-- none
+pub stand_none : (old : List ℕ) (at : ℕ) → StandAt old old at []
+stand_none old at =
+    sym (take-append-drop at old) ∙ ap (λ (n : ℕ). take at old ++ drop n old) (sym (add-zero at))
 
 -- some behind others
 pub stand_more : (old mid new x y : List ℕ) (at : ℕ) → at ≤ length old → StandAt old mid at x

@@ -1,17 +1,24 @@
 -- Bytes that are put into a slice at a place, and the items that have them.
 use Rattle.std.specs.Prelude.{◌≡◌, ◌+◌, ◌*◌, ◌≤◌, ◌<◌, ℕ, ℤ, List, [], ◌∷◌, ◌++◌, length, take, drop, get_or, ⊤}
-use Rattle.std.specs.Prelude.{Option, Some, None}
+use Rattle.std.specs.Prelude.{Option, MatchOption, ◌⊎◌}
+use Rattle.xdr_types.specs.Kinds as xdr
 use Rattle.xdr_types.specs.Kinds.{KindView, Part, kind_at}
 use Rattle.xdr_writer.specs.Items.{ItemView, number}
 use Rattle.xdr_writer.specs.Runs.{as_items}
 use Rattle.xdr_filling.specs.Holes.{Goes, Hole, hole}
 use Rattle.xdr_filling.specs.Gaps.{hole_of, holes_in, onto, parts_of}
-use Rattle.xdr_filling.specs.Filled.{spelled_bytes, units}
+use Rattle.xdr_filling.specs.Filled.{holes_of, spelled_bytes, units}
+use Rattle.xdr_filling.specs.declared.filling.Filling.{Filling}
 use Rattle.xdr_filling.specs.declared.gap.Gap.{Gap}
 use Rattle.xdr_filling.specs.declared.made.Made.{Made}
 use Rattle.xdr_filling.specs.declared.putting.Put.{Put}
 use Rattle.xdr_filling.specs.declared.putting.Put.TheVariants as put
+use Rattle.xdr_filling.specs.declared.putting.Reached.{Reached}
 use Rattle.xdr_filling.specs.Private.Makes.{IsNode, inside_of}
+
+-- content of varying size of a kind, an opaque or a string, has so many bytes at most (RFC 4506 sections 4.10, 4.11)
+abbrev pub IsCounted : KindView → (most : ℕ) → Type 0
+IsCounted k most = (k ≡ xdr.opaque_up_to most) ⊎ (k ≡ xdr.text most)
 
 -- these bytes stand behind the first so many, and all others stay
 abbrev pub StandAt : (old new : List ℕ) → (at : ℕ) → (bytes : List ℕ) → Type 0
@@ -34,9 +41,8 @@ pub record PutsNode (w : Gap) (gs : List Gap) (v : Gap) (hs : List Gap) (m : Mad
 -- what is put of a node, where there is one
 abbrev pub PutsMade : (w : Gap) (gs : List Gap) (v : Gap) (hs : List Gap) → Option Made → (old new : List ℕ) (at : ℕ)
     → Put → Type 0
-PutsMade w gs v hs (Some m) old new at (put.Item end) = PutsNode w gs v hs m old new at end
-PutsMade w gs v hs None old new at (put.Item end) = ⊥
 PutsMade w gs v hs m old new at put.Silent = ⊥
+PutsMade w gs v hs m old new at (put.Item end) = MatchOption m ⊥ (λ k. PutsNode w gs v hs k old new at end)
 PutsMade w gs v hs m old new at put.Unknown = ⊤
 
 -- An item of a source fills a part of this kind that was taken away, and its bytes stand behind the first so many, up to
@@ -70,3 +76,20 @@ pub record PutsRun {S : Type 0} (tells : S → ℕ → ItemView → Type 0) (s :
   pub goes : (hs : List Hole) → Goes kinds (hole_of w ∷ hs) (hole_of v ∷ hs) (as_items zs) (units zs)
   pub put : StandAt old new at (units zs)
   pub within : at + 4 * many ≤ length old
+
+-- Items of a source behind so many fill what comes next, and their bytes stand behind the first so many; up to how many
+-- of each.
+pub record PutsNext {S : Type 0} (tells : S → ℕ → ItemView → Type 0) (s : S) (f g : Filling) (old new : List ℕ)
+    (index at to end : ℕ) : Type 0 where
+  pub is : List ItemView
+  pub many : to ≡ index + length is
+  pub told : (n : ℕ) (i : ItemView) → n < length is → tells s (index + n) (get_or is n i)
+  pub bytes : List ℕ
+  pub goes : Goes f.schema.now.kinds (holes_of f) (holes_of g) is bytes
+  pub put : StandAt old new at bytes
+  pub count : end ≡ at + length bytes
+  pub within : end ≤ length old
+
+-- either one item more was put, or a node without bytes of its own was opened or passed
+abbrev pub IsFurther : (from to : Reached) → Type 0
+IsFurther from to = ((to.index ≡ from.index + 1) × (to.left ≤ 64)) ⊎ ((to.index ≡ from.index) × (to.left < from.left))

@@ -2,11 +2,12 @@ use Rattle.std.proofs.Common.{◌≡◌, ◌+◌, ◌*◌, ◌-◌, ◌≤◌}
 use Rattle.xdr_filling.specs.Filled.{PutsFirst}
 use Rattle.xdr_filling.proofs.filling.Filling.put_all.Given as goal
 
-abbrev pub invariant-loop-index : goal.invariant-loop-index
-invariant-loop-index g l =
-    PutsFirst g.S.Source.tells l.source l.index l.initial.self
-    (record { schema = l.initial.self.schema; work = l.work; around = l.self.around }) l.initial.out l.out l.end
-    × (l.index ≤ l.count) × (l.self.schema ≡ l.initial.self.schema)
+abbrev pub invariant-loop-at : goal.invariant-loop-at
+invariant-loop-at g l = record {
+  first : PutsFirst g.S.Source.tells l.source l.at.index l.initial.self l.self l.initial.out l.out l.at.end;
+  few : l.at.index ≤ l.count;
+  schema : l.self.schema.now ≡ l.initial.self.schema.now;
+}
 
-abbrev pub decreases-loop-index : goal.decreases-loop-index
-decreases-loop-index g l = (l.count - l.index) * 65 + l.left
+abbrev pub decreases-loop-at : goal.decreases-loop-at
+decreases-loop-at g l = (l.count - l.at.index) * 65 + l.at.left
