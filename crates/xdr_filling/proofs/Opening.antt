@@ -64,6 +64,11 @@ module _ (w : Gap) (gs : List Gap) where
     goes = λ s. one_next s o v hs (before s) k.place t;
   }
 
+-- none that was found
+pub none_found : (r : Option KindId) (A : Type 0) (P : KindId → Type 0) → is_some r ≡ false → MatchOption r A P → A
+none_found None A P e f = f
+none_found (Some k) A P e f = absurd (false≢true (sym e))
+
 -- a part that was found
 pub some_found : (r : Option KindId) (A B : Type 0) (P : KindId → Type 0) → is_some r ≡ true → MatchOption r A P
     → MatchOption r B P
@@ -115,10 +120,6 @@ fields_alone item ps = refl
 
 pub items_alone : (item left : ℕ) → replicate left (item_part item) ++ [] ≡ replicate left (item_part item)
 items_alone item left = append-nil (replicate left (item_part item))
-
-pub is_on : (b : Bool) → not b ≡ false → b ≡ true
-is_on true e = refl
-is_on false e = absurd (false≢true (sym e))
 
 -- the first of some fields
 pub first_field : (item left : ℕ) (ms ns : List Member) (m : Member) → left ≡ 0 → 1 ≤ length ms → m ≡ get_or ms 0 m

@@ -24,7 +24,7 @@ returns-in_default-silent c =
     let n = c.in-Some.ensures in record {
       part = n.part;
       place = n.kind;
-      kind_is = c.kind.ensures;
+      kind_is = c.kind-kind.ensures;
       room = omega arith;
       goes = takes_part kinds (holes_in c.args.work.now c.args.around.now.items) w gs c.next_part.new.work
           c.next_part.new.around.items c.loop-left.invariant c.in-Some.id.place n;
@@ -37,5 +37,5 @@ loop-left-preserved c =
     let gs = c.loop-left.around.items in
     passes_part kinds (holes_in c.args.work.now c.args.around.now.items) w gs c.next_part.new.work
     c.next_part.new.around.items c.loop-left.invariant c.in-Some.id.place c.fill.new.work c.fill.new.around.items
-    (kind_view c.kind.result.now) (inside_of c.in-Some-silent.inside) c.in-Some.ensures c.kind.ensures
+    (kind_view c.kind-kind.result.now) (inside_of c.in-Some-silent.inside) c.in-Some.ensures c.kind-kind.ensures
     (c.in-Some-silent.ensures kinds) (λ p node. c.in_ok-fill.ensures kinds [] [] p node)

@@ -11,7 +11,7 @@ returns-in_ok-fill-clause-part g c =
     let kinds = c.args.filling.now.schema.now.kinds in (
       refl,
       silent_part kinds c.args.id.place c.args.filling.now.work c.args.filling.now.around.items c.fill.new.work
-          c.fill.new.around.items (kind_view c.kind.result.now) (inside_of c.in-Some.inside) c.kind.ensures
+          c.fill.new.around.items (kind_view c.kind-kind.result.now) (inside_of c.in-Some.inside) c.kind-kind.ensures
           (c.in-Some.ensures kinds) (λ p node. c.in_ok-fill.ensures kinds [] [] p node),
     )
 
@@ -20,5 +20,5 @@ returns-clause-part g c =
     let kinds = c.args.filling.now.schema.now.kinds in
     part_put g.S.Source.tells c.args.source.now c.args.index kinds c.args.id.place c.args.filling.now.work
     c.args.filling.now.around.items c.put_made.new.filling.work c.put_made.new.filling.around.items c.args.out.now
-    c.put_made.new.out c.args.at c.put_made.result (kind_view c.kind.result.now) c.made_of-made.result
-    (item_view c.in-Some-item.item) c.kind.ensures c.in-Some-item.ensures c.made_of-made.ensures c.put_made.ensures.made
+    c.put_made.new.out c.args.at c.put_made.result (kind_view c.kind-kind.result.now) c.made_of-made.result
+    (item_view c.in-Some-item.item) c.kind-kind.ensures c.in-Some-item.ensures c.made_of-made.ensures c.put_made.ensures.made
