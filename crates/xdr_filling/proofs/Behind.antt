@@ -1,7 +1,7 @@
 -- The items of a source whose bytes are put behind one another.
 use Rattle.std.proofs.Common.{◌≡◌, ℕ, ℤ, ◌+◌, ◌-◌, ◌*◌, ◌<◌, ◌≤◌, List, [], ◌∷◌, ◌++◌, length, take, drop, get_or, refl}
 use Rattle.std.proofs.Common.{ap, sym, ◌∙◌, subst, arith, append_assoc, append-nil, Bool, true, false, nat_lt, ltb-true, zero, suc, pos}
-use Rattle.std.proofs.Common.{ltb-false}
+use Rattle.std.proofs.Common.{ltb-false, inl, inr}
 use Rattle.std.proofs.lemmas.List.{length-append, get_or_append_left, get_or-append_right}
 use Rattle.xdr_types.specs.Kinds.{KindView, Part, Lists}
 use Rattle.xdr_writer.specs.Items.{ItemView, number}
@@ -12,8 +12,9 @@ use Rattle.xdr_filling.specs.Filled.{PutsFirst, holes_of, root, units}
 use Rattle.xdr_filling.specs.declared.filling.Filling.{Filling}
 use Rattle.xdr_filling.specs.declared.gap.Gap.{Gap}
 use Rattle.xdr_filling.specs.Private.Makes.{NextIs}
-use Rattle.xdr_filling.specs.Private.Placed.{PutsItem, PutsNext, PutsRun, StandAt, with_part}
-use Rattle.xdr_filling.proofs.Going.{goes_by, goes_on}
+use Rattle.xdr_filling.specs.declared.onward.Reached.{Reached}
+use Rattle.xdr_filling.specs.Private.Placed.{IsFurther, PutsItem, PutsNext, PutsRun, StandAt, with_part}
+use Rattle.xdr_filling.proofs.Going.{goes_by, goes_on, stays}
 use Rattle.xdr_filling.proofs.Placing.{stand_more, stand_none, same_count}
 use Rattle.xdr_filling.proofs.Units.{units_count}
 
@@ -116,6 +117,20 @@ module _ {S : Type 0} (tells : S → ℕ → ItemView → Type 0) (s : S) where
       (subst (λ (k : List KindView). Goes k (holes_of g) (holes_of h) n.is n.bytes) known_g n.goes) n.put n.count
       n.within)
 
+  -- nothing
+  pub next_none : (f : Filling) (old : List ℕ) (index end : ℕ) → end ≤ length old
+      → PutsNext tells s f f old old index end index end
+  next_none f old index end within = record {
+    is = [];
+    many = omega arith;
+    told = λ at i less. absurd (omega (arith, less));
+    bytes = [];
+    goes = stays f.schema.now.kinds (holes_of f);
+    put = stand_none old end;
+    count = omega arith;
+    within = within;
+  }
+
   module _ (f g h : Filling) (old : List ℕ) (index end place : ℕ)
       (n : NextIs f.work f.around.items g.work g.around.items place) where
     -- a node without bytes of its own
@@ -179,3 +194,13 @@ module _ {S : Type 0} (tells : S → ℕ → ItemView → Type 0) (s : S) where
         count = ap (λ (n : ℕ). end + n) (sym size);
         within = run.within;
       }
+
+-- how far it comes
+pub reaches : (from to : Reached) → IsFurther from to → to.index ≤ from.index + 1
+reaches from to (inl e) = omega (arith, e.0)
+reaches from to (inr e) = omega (arith, e.0)
+
+pub nearer : (from to at : Reached) (count : ℕ) → from.index < count → IsFurther from to → to.index ≤ at.index
+    → at.left ≡ to.left → (count - at.index) * 65 + at.left < (count - from.index) * 65 + from.left
+nearer from to at count some (inl e) low same = omega (arith, some, e.0, e.1, low, same)
+nearer from to at count some (inr e) low same = omega (arith, some, e.0, e.1, low, same)

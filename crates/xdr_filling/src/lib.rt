@@ -3,7 +3,8 @@
 //!
 //! - `filling`: the parts of a value that are not filled. `gap`: those of one node. `due`: the one that comes next.
 //! - `made`: what an item makes of a part. `numbers`: of a number. `spelled`: the bytes of an item.
-//! - `putting`: all items of a `source`, whose bytes are put into a slice. `places`: bytes at a place of it.
+//! - `onward`: all items of a `source`, whose bytes are put into a slice. `putting`: one of them. `places`: bytes at a
+//!   place of it.
 //! - `runs`: items of an array that are numbers, many at once.
 #![tactic(auto)]
 
@@ -12,6 +13,7 @@ mod filling;
 mod gap;
 mod made;
 mod numbers;
+mod onward;
 mod places;
 mod putting;
 mod runs;

@@ -13,7 +13,7 @@ use Rattle.xdr_filling.specs.declared.gap.Gap.{Gap}
 use Rattle.xdr_filling.specs.declared.made.Made.{Made}
 use Rattle.xdr_filling.specs.declared.putting.Put.{Put}
 use Rattle.xdr_filling.specs.declared.putting.Put.TheVariants as put
-use Rattle.xdr_filling.specs.declared.putting.Reached.{Reached}
+use Rattle.xdr_filling.specs.declared.onward.Reached.{Reached}
 use Rattle.xdr_filling.specs.Private.Makes.{IsNode, inside_of}
 
 -- content of varying size of a kind, an opaque or a string, has so many bytes at most (RFC 4506 sections 4.10, 4.11)

@@ -1,7 +1,7 @@
 -- Numbers of the source are put.
 use Rattle.std.proofs.Common.{arith}
 use Rattle.xdr_filling.proofs.Running.{run_put}
-use Rattle.xdr_filling.proofs.putting.put_run.Goals as goal
+use Rattle.xdr_filling.proofs.onward.put_run.Goals as goal
 
 pub returns-clause-put : goal.returns-clause-put
 returns-clause-put g c =
