@@ -1,5 +1,6 @@
 -- What C's items fill of a value.
-use Rattle.std.proofs.Common.{◌≡◌, ℕ, ℤ, ◌+◌, ◌<◌, ◌≤◌, zero, suc, List, [], ◌∷◌, ◌++◌, length, take, drop, get_or, sym, ap, subst}
+use Rattle.std.proofs.Common.{◌≡◌, ℕ, ℤ, ◌+◌, ◌<◌, ◌≤◌, zero, suc, List, [], ◌∷◌, ◌++◌, length, take, drop, get_or}
+use Rattle.std.proofs.Common.{sym, ap, subst}
 use Rattle.std.proofs.Common.{◌∙◌, arith}
 use Rattle.std.proofs.lemmas.List.{take_at, length-take-le, get_or-take, get_or-drop}
 use Rattle.xdr_types.specs.Kinds.{KindView}
@@ -22,7 +23,9 @@ all_told content [] [] e t = tt
 all_told content [] (i ∷ is) e t = absurd (omega (arith, e))
 all_told content (c ∷ cs) [] e t = absurd (omega (arith, e))
 all_told content (c ∷ cs) (i ∷ is) e t =
-    (t 0 i (omega arith) c, all_told content cs is (omega (arith, e)) (λ at j less d. t (suc at) j (omega (arith, less)) d))
+    let behind = λ (at : ℕ) (j : ItemView) (less : at < length cs) (d : ValueItem).
+    t (suc at) j (omega (arith, less)) d in
+    (t 0 i (omega arith) c, all_told content cs is (omega (arith, e)) behind)
 
 -- items that tell numbers, one by one
 number_told : (content : List ℕ) (cs : List ValueItem) (zs : List ℤ) → AreTold content cs (as_items zs) → (at : ℕ)
@@ -37,10 +40,11 @@ pub number_at : (content : List ℕ) (cs : List ValueItem) (from n : ℕ) (zs : 
     → AreTold content (take n (drop from cs)) (as_items (take n zs)) → (at : ℕ) (d : ℤ) → at < n → (e : ValueItem)
     → Tells content (get_or cs (from + at) e) (number (get_or zs at d))
 number_at content cs from n zs room told at d less e =
+    let here : at < length (take n zs) = omega (arith, less, length-take-le n zs room) in
     subst (λ (c : ValueItem). Tells content c (number (get_or zs at d)))
     (get_or-take n (drop from cs) at e less ∙ get_or-drop from cs at e)
     (subst (λ (z : ℤ). Tells content (get_or (take n (drop from cs)) at e) (number z)) (get_or-take n zs at d less)
-    (number_told content (take n (drop from cs)) (take n zs) told at d e (omega (arith, less, length-take-le n zs room))))
+    (number_told content (take n (drop from cs)) (take n zs) told at d e here))
 
 -- and one behind them
 pub last_told : (content : List ℕ) (cs first : List ValueItem) (last : ValueItem) (is : List ItemView) (i : ItemView)

@@ -1,6 +1,7 @@
 -- The items of a source whose bytes are put behind one another.
 use Rattle.std.proofs.Common.{◌≡◌, ℕ, ℤ, ◌+◌, ◌-◌, ◌*◌, ◌<◌, ◌≤◌, List, [], ◌∷◌, ◌++◌, length, take, drop, get_or, refl}
-use Rattle.std.proofs.Common.{ap, sym, ◌∙◌, subst, arith, append_assoc, append-nil, Bool, true, false, nat_lt, ltb-true, zero, suc, pos}
+use Rattle.std.proofs.Common.{ap, sym, ◌∙◌, subst, arith, append_assoc, append-nil, Bool, true, false, nat_lt}
+use Rattle.std.proofs.Common.{ltb-true, zero, suc, pos}
 use Rattle.std.proofs.Common.{ltb-false, inl, inr}
 use Rattle.std.proofs.lemmas.List.{length-append, get_or_append_left, get_or-append_right}
 use Rattle.xdr_types.specs.Kinds.{KindView, Part, Lists}

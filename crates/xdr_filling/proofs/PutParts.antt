@@ -1,5 +1,6 @@
 -- What is put of a part that comes next.
-use Rattle.std.proofs.Common.{◌≡◌, ℕ, ℤ, ◌+◌, ◌*◌, ◌<◌, ◌≤◌, List, [], ◌∷◌, ◌++◌, length, take, drop, get_or, sym, ap, ◌∙◌}
+use Rattle.std.proofs.Common.{◌≡◌, ℕ, ℤ, ◌+◌, ◌*◌, ◌<◌, ◌≤◌, List, [], ◌∷◌, ◌++◌, length, take, drop, get_or, sym, ap}
+use Rattle.std.proofs.Common.{◌∙◌}
 use Rattle.std.proofs.Common.{subst, inl, inr, Option, Some, None, IfSome, Result, IfOk}
 use Rattle.std.proofs.lemmas.Result.{IfOk-weaker}
 use Rattle.xdr_types.specs.Kinds as xdr
@@ -45,7 +46,8 @@ module _ {S : Type 0} (tells : S → ℕ → ItemView → Type 0) (s : S) (index
       (λ x f. part_made m x i told (subst (λ (y : KindView). IfSome m (Makes kinds y i)) same makes) f)
 
 -- content of varying size
-pub counted_makes : (kinds : List KindView) (k : KindView) (most : ℕ) (i : ItemView) (m : Option Made) → IsCounted k most
+pub counted_makes : (kinds : List KindView) (k : KindView) (most : ℕ) (i : ItemView) (m : Option Made) → IsCounted k
+    most
     → IfSome m (λ x. Makes kinds (xdr.opaque_up_to most) i x × Makes kinds (xdr.text most) i x)
     → IfSome m (Makes kinds k i)
 counted_makes kinds k most i None counted f = tt
@@ -79,7 +81,8 @@ module _ (kinds : List KindView) (r : List Hole) (w : Gap) (gs : List Gap) (v : 
   -- a node without bytes of its own is opened or passed
   pub passes_part : (place : ℕ) (u : Gap) (ks : List Gap) (k : KindView) (qs : List Part) → NextIs w gs v hs place
       → k ≡ kind_at kinds place → IsNode kinds k [] [] qs
-      → ((p : Part) → IsNode kinds (kind_at kinds p.kind) [] [] qs → Goes kinds (with_part p v hs) (holes_in u ks) [] [])
+      → ((p : Part) → IsNode kinds (kind_at kinds p.kind) [] [] qs → Goes kinds (with_part p v hs) (holes_in u ks) []
+      [])
       → Goes kinds r (holes_in u ks) [] []
   passes_part place u ks k qs n same node filled =
       three_go kinds r (holes_in w gs) (with_part n.part v hs) (holes_in u ks) before (n.goes kinds)

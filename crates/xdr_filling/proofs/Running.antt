@@ -1,6 +1,7 @@
 -- Numbers of one unit that fill items of an array.
 use Rattle.std.proofs.Common.{◌≡◌, ℕ, ℤ, ◌+◌, ◌-◌, ◌≤◌, suc, zero, Bool, true, false, List, [], ◌∷◌, ◌++◌, length}
-use Rattle.std.proofs.Common.{refl, ap, sym, ◌∙◌, subst, arith, append-nil, append_assoc, replicate, take, map, ◌<◌, ◌*◌}
+use Rattle.std.proofs.Common.{refl, ap, sym, ◌∙◌, subst, arith, append-nil, append_assoc, replicate, take, map, ◌<◌}
+use Rattle.std.proofs.Common.{◌*◌}
 use Rattle.std.proofs.Common.{get_or, length-take}
 use Rattle.std.proofs.lemmas.List.{take-take, length-take-le, get_or-take}
 use Rattle.xdr_units.specs.Numbers.{num4}

@@ -1,5 +1,6 @@
 -- The parts that are not filled yet, and the items and bytes so far.
-use Rattle.std.specs.Prelude.{◌≡◌, ◌+◌, ◌≤◌, ℕ, ℤ, Bool, List, [], ◌∷◌, ◌++◌, ◌<◌, length, take, drop, get_or, replicate}
+use Rattle.std.specs.Prelude.{◌≡◌, ◌+◌, ◌≤◌, ℕ, ℤ, Bool, List, [], ◌∷◌, ◌++◌, ◌<◌, length, take, drop, get_or}
+use Rattle.std.specs.Prelude.{replicate}
 use Rattle.xdr_types.specs.Kinds.{KindView, kind_at}
 use Rattle.xdr_types.specs.Tree.{Tree, depth}
 use Rattle.xdr_types.specs.Fits.{Fits, item_part}
@@ -63,8 +64,8 @@ pub record PutsBehind (f g : Filling) (is : List ItemView) (old new : List ℕ) 
   pub count : end ≡ at + length bytes
   pub within : end ≤ length old
 
--- So many of the first items of a source stand behind those so far, and their bytes at the front of a slice, whose other
--- bytes stay.
+-- So many of the first items of a source stand behind those so far, and their bytes at the front of a slice, whose
+-- other bytes stay.
 pub record PutsFirst {S : Type 0} (tells : S → ℕ → ItemView → Type 0) (s : S) (count : ℕ) (f g : Filling)
     (old new : List ℕ) (end : ℕ) : Type 0 where
   pub is : List ItemView

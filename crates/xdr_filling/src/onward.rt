@@ -44,8 +44,8 @@ fn put_run<S: Source>(
     )
 }
 
-// How far a source was put: so many items, whose bytes end there. So many nodes without bytes of their own may still come
-// before the next.
+// How far a source was put: so many items, whose bytes end there. So many nodes without bytes of their own may still
+// come before the next.
 #[derive(Clone, Copy, Drop)]
 pub(crate) struct Reached {
     index: usize,

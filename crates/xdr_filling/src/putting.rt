@@ -121,7 +121,8 @@ fn most_of(kind: &Kind) -> Option<u32>
     }
 }
 
-/// Puts an item as `put_any` does, without a call where the part is content of varying size, an optional or a structure.
+/// Puts an item as `put_any` does, without a call where the part is content of varying size, an optional or a
+/// structure.
 #[inline(always)]
 pub(crate) fn put_part<'s, S: Source>(
     filling: &mut Filling<'s>,

@@ -1,5 +1,6 @@
 //! Items of an array that are numbers of one unit, many at once.
-ghost use Rattle.std.specs.Prelude.{◌≡◌, ◌+◌, ◌*◌, ◌<◌, ◌≤◌, ◌∷◌, ◌++◌, ℕ, List, length, take, OnOk, IfOk, IfSome, true};
+ghost use Rattle.std.specs.Prelude.{◌≡◌, ◌+◌, ◌*◌, ◌<◌, ◌≤◌, ◌∷◌, ◌++◌, ℕ, List, length, take, OnOk, IfOk, IfSome};
+ghost use Rattle.std.specs.Prelude.{true};
 ghost use Rattle.xdr_units.specs.Numbers.{num4};
 ghost use Rattle.xdr_writer.specs.Items.{ItemView};
 ghost use Rattle.xdr_writer.specs.Runs.{as_items};

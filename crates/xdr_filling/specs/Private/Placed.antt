@@ -45,8 +45,8 @@ PutsMade w gs v hs m old new at put.Silent = ⊥
 PutsMade w gs v hs m old new at (put.Item end) = MatchOption m ⊥ (λ k. PutsNode w gs v hs k old new at end)
 PutsMade w gs v hs m old new at put.Unknown = ⊤
 
--- An item of a source fills a part of this kind that was taken away, and its bytes stand behind the first so many, up to
--- the end.
+-- An item of a source fills a part of this kind that was taken away, and its bytes stand behind the first so many, up
+-- to the end.
 pub record PutsItem {S : Type 0} (tells : S → ℕ → ItemView → Type 0) (s : S) (index : ℕ) (kinds : List KindView)
     (place : ℕ) (w : Gap) (gs : List Gap) (v : Gap) (hs : List Gap) (old new : List ℕ) (at end : ℕ) : Type 0 where
   pub item : ItemView

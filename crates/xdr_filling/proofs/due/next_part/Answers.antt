@@ -14,7 +14,8 @@ pub loop-found-init : goal.loop-found-init
 loop-found-init c =
     let w = c.args.work.now in
     let gs = c.args.around.now.items in
-    after_step w gs w c.step-found.new.self gs c.step-found.result (λ s. stays s (holes_in w gs)) c.step-found.ensures.next
+    after_step w gs w c.step-found.new.self gs c.step-found.result (λ s. stays s (holes_in w gs))
+    c.step-found.ensures.next
 
 pub loop-found-preserved : goal.loop-found-preserved
 loop-found-preserved c =

@@ -28,7 +28,8 @@ returns c = λ arms other is.
     picked_part (kind_at s c.args.id.place) c.args.tag.place arms other z c.args.number
     (option_map (λ (m : Bor Member). part_of_member m.now) c.part_in.result) p is c.part_in.ensures found same in
     let legal : is_tag_of k c.args.number ≡ true =
-    tag_legal c.args.schema.now c.len-known.ensures.well_formed c.args.id.place c.args.tag.place arms other is c.args.free
+    tag_legal c.args.schema.now c.len-known.ensures.well_formed c.args.id.place c.args.tag.place arms other is
+    c.args.free
     c.args.number p (c.requires arms other is) allowed picked in
     choice_node s c.args.tag.place arms other c.args.number c.in-Some.word.bytes p legal picked
     (c.in-Some.ensures.1 ∙ ap (λ (x : ℤ). num4 x) wide)

@@ -21,4 +21,5 @@ returns-clause-part g c =
     part_put g.S.Source.tells c.args.source.now c.args.index kinds c.args.id.place c.args.filling.now.work
     c.args.filling.now.around.items c.put_made.new.filling.work c.put_made.new.filling.around.items c.args.out.now
     c.put_made.new.out c.args.at c.put_made.result (kind_view c.kind-kind.result.now) c.made_of-made.result
-    (item_view c.in-Some-item.item) c.kind-kind.ensures c.in-Some-item.ensures c.made_of-made.ensures c.put_made.ensures.made
+    (item_view c.in-Some-item.item) c.kind-kind.ensures c.in-Some-item.ensures c.made_of-made.ensures
+    c.put_made.ensures.made

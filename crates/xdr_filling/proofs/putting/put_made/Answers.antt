@@ -10,7 +10,8 @@ returns-clause-made c =
     let gs = c.args.filling.now.around.items in
     let v = c.fill.new.work in
     let hs = c.fill.new.around.items in
-    subst (λ (o : Option Made). MatchOption o ⊥ (λ k. PutsNode w gs v hs k c.args.out.now c.put_spelled.new.out c.args.at
+    subst (λ (o : Option Made). MatchOption o ⊥ (λ k. PutsNode w gs v hs k c.args.out.now c.put_spelled.new.out
+    c.args.at
     c.in-Some-end_of.end)) (sym c.in-Some.is) (record {
       goes = λ kinds is p node. c.in_ok-fill.ensures kinds is _ p node;
       put = c.put_spelled.ensures;

@@ -1,5 +1,6 @@
 -- One number stands behind those before it.
-use Rattle.std.proofs.Common.{◌≡◌, ◌+◌, ◌≤◌, ◌++◌, ℕ, ℤ, List, length, true, pos, get_or, take, ap, sym, ◌∙◌, subst, arith}
+use Rattle.std.proofs.Common.{◌≡◌, ◌+◌, ◌≤◌, ◌++◌, ℕ, ℤ, List, length, true, pos, get_or, take, ap, sym, ◌∙◌, subst}
+use Rattle.std.proofs.Common.{arith}
 use Rattle.std.proofs.Common.{to_z, of_z, rules}
 use Rattle.std.proofs.lemmas.List.{length-take-le}
 use mir.Syntax.{w128}

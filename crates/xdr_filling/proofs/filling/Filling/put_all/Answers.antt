@@ -36,7 +36,8 @@ loop-at-preserved g c =
     let mid : PutsFirst tells s to.index f h c.args.out.now c.put_next.new.out to.end =
     next_first tells s f c.loop-at.self h c.loop-at.at.index c.args.out.now c.loop-at.out c.put_next.new.out
     c.loop-at.at.end to.index to.end c.loop-at.invariant.first c.loop-at.invariant.schema same n in record {
-      first = next_first tells s f h c.put_more.new.filling to.index c.args.out.now c.put_next.new.out c.put_more.new.out
+      first = next_first tells s f h c.put_more.new.filling to.index c.args.out.now c.put_next.new.out
+          c.put_more.new.out
           to.end c.put_more.result.index c.put_more.result.end mid same all c.put_more.ensures.next;
       few = omega arith;
       schema = all;
