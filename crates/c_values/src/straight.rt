@@ -19,6 +19,7 @@ use xdr_writer::Item;
 pub const FEW: usize = 256;
 
 // Items that C lends, and the bytes in which their content lies.
+#[derive(Clone, Copy)]
 struct Lent<'a> {
     items: &'a [ValueItem],
     content: &'a [u8],

@@ -77,7 +77,7 @@ fn padded_end(count: usize, at: usize, most: usize) -> Option<usize>
     if count > most - at {
         return None;
     }
-    some_end(count + (4 - count % 4) % 4, at, most)
+    some_end((4 - count % 4) % 4, at + count, most)
 }
 
 /// Where the bytes of an item end behind so many others; none, where that is above the most.

@@ -1,5 +1,5 @@
 -- The node fills the part, and its bytes are put.
-use Rattle.std.proofs.Common.{⊥, Option, MatchOption, sym, subst}
+use Rattle.std.proofs.Common.{Option, MatchOption, sym, subst}
 use Rattle.xdr_filling.specs.declared.made.Made.{Made}
 use Rattle.xdr_filling.specs.Private.Placed.{PutsNode}
 use Rattle.xdr_filling.proofs.putting.put_made.Goals as goal
