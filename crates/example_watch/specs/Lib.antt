@@ -1,2 +1,3 @@
+pub mod Brief
 pub mod Files
 pub mod Frames
