@@ -15,5 +15,6 @@ returns-in_ok-text-in-Refused c =
     λ e. let other : Refused refusal ≡ Unjudged = sym c.in-Refused.is ∙ e in absurd cc in
     let head = line c.call_bytes_are_exact.ensures s c.args.bytes.now c.requires.call.0 page.text.items page.verdict
     page.said c.requires.brief c.requires.lines c.requires.call.1 c.in_ok-page.ensures judged in
-    closed_line page.text.items c.in_ok-text-in-Refused.text.items (set_line (name_in (declared_in s.declared 100000 2 1)))
+    closed_line page.text.items c.in_ok-text-in-Refused.text.items
+    (set_line (name_in (declared_in s.declared 100000 2 1)))
     page.verdict refusal c.args.place head c.in-Refused.is c.in_ok-text-in-Refused.ensures
